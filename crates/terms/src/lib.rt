@@ -1,3 +1,4 @@
-// What every layer shares: the bounds of a group, and the numbered refusals.
+// What every layer shares: the bounds of a group, lists kept inline, and the numbered refusals.
+pub mod bounded;
 pub mod limits;
 pub mod refusal;
