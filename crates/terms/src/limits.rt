@@ -2,6 +2,7 @@
 
 // A group has 2 to 6 servers,
 pub const MIN_SERVERS: usize = 2;
+
 pub const MAX_SERVERS: usize = 6;
 // 1 to 6 objects,
 pub const MAX_OBJECTS: usize = 6;

@@ -1,0 +1,5 @@
+pub mod Arithmetic
+pub mod Laws
+pub mod Total
+pub mod Modular
+pub mod Binary
