@@ -1,3 +1,4 @@
 pub mod Items
 pub mod Limits
+pub mod Lists
 pub mod Refusals

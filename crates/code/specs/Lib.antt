@@ -1,0 +1,4 @@
+pub mod Sums
+pub mod Codings
+pub mod Recovery
+pub mod Layout

@@ -1,0 +1,1 @@
+// Codes: tables of coefficients over a field, symbols, re-encoding, recovery and decoding.
