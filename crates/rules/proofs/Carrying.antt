@@ -202,7 +202,7 @@ module _ (g : Code) (R : Lawful g) (L : List Entry) (cells : Cells g R L) (S : S
         let lv = slot-live m l in
         let w = mended g p a r v st (g .k) in
         let mend = mends g S f a b an bn ne m v st ms e l in
-        let t = ok l in
+        let t = ok l mend in
         (src .servers b .reads i (r .object),
          decoded-right g R L cells (in-hand r a w .hand) (in-hand r a w .symbols) (r .object) (d .value) (r .tags) (h .servers b bn .object i lv) (t .decoded rec)
            (all-hands i w lv (mended-right g R L cells p a r v st an (src .servers b .history) mend (all .0 .1))))

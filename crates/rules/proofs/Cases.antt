@@ -181,6 +181,7 @@ module _ (g : Code) (S : State) (Φ : Turn → Type 0) (refused : (r : ℕ) → 
   pub deliver-cases : (a b : ℕ) (f : Found)
       → ((o : ℕ) (r : Server) → Receives (S .servers b) r → ((i : ℕ) → (ltb i slots && is-open (r .reads i)) ≡ true → r .reads i ≡ S .servers b .reads i) → Φ (turn (Outcome o) (take-done g S a b r)))
       → ((m : ℕ) (v st : List ℕ) (ms : List Message) → a < g .n → b < g .n → S .lanes a b ≡ Coded m v st ∷ ms → ltb (open-slot g (S .servers b) m) slots ≡ true → f .recovered ≡ false
+          → mendable g (S .servers b) a (S .servers b .reads (open-slot g (S .servers b) m)) st ≡ true
           → Receives (S .servers b) (waiting-on a b m v st) → Φ (turn (Outcome 3) (take-done g S a b (waiting-on a b m v st))))
       → ((o : ℕ) (m : Message) → Φ (turn (Outcome o) (question-done g S a b m)))
       → Φ (deliver g S a b f)
@@ -214,7 +215,7 @@ module _ (g : Code) (S : State) (Φ : Turn → Type 0) (refused : (r : ℕ) → 
           let wait = turn (Outcome 3) (take-done g S a b (reading p (upd (p .reads) i r′))) in
           cond-both (ltb i slots) (cond (mendable g p a r st) (cond (f .recovered) (settle g S a b i r′ (f .value)) wait) useless) (turn (Outcome 5) (take-done g S a b p)) Φ
             (λ e. cond-both (mendable g p a r st) (cond (f .recovered) (settle g S a b i r′ (f .value)) wait) useless Φ
-              (λ _. cond-both (f .recovered) (settle g S a b i r′ (f .value)) wait Φ (λ _. settles i r′ (f .value) (found-open m e) refl refl) (λ q. waits m v st ms an bn l e q (unfold reading in plain (reading p (upd (p .reads) i r′)) refl refl refl (open-upd p (reading p (upd (p .reads) i r′)) i r′ refl (λ z. (z, refl, refl))))))
+              (λ mend. cond-both (f .recovered) (settle g S a b i r′ (f .value)) wait Φ (λ _. settles i r′ (f .value) (found-open m e) refl refl) (λ q. waits m v st ms an bn l e q mend (unfold reading in plain (reading p (upd (p .reads) i r′)) refl refl refl (open-upd p (reading p (upd (p .reads) i r′)) i r′ refl (λ z. (z, refl, refl))))))
               (λ _. takes 6 p (plain p refl refl refl (open-same p p refl)) (λ i e. refl)))
             (λ _. takes 5 p (plain p refl refl refl (open-same p p refl)) (λ i e. refl))
       front : a < g .n → b < g .n → (l : List Message) → S .lanes a b ≡ l → Φ (oldest g S a b l f)

@@ -32,3 +32,4 @@ pub mod Peaks
 pub mod Latest
 pub mod Waits
 pub mod View
+pub mod Same

@@ -13,7 +13,7 @@ use Rattle.code.specs.Recovery as recovery
 use Rattle.rules.proofs.RankedMessages.{Message, Written, Tagged, Question, Plain, Coded}
 use Rattle.rules.proofs.RankedWords.{upd, listed}
 use Rattle.rules.proofs.Ranked.{Code, coding-of, Entry, Read, State, has, zeros, enters, holds, kept, is-open, fresh, slots, clients}
-use Rattle.rules.proofs.RankedSteps.{Call, Write, Ask, Collect, Deliver, Apply, Encode, Sweep, Answer, Refused, Tag, Value, Number, Still, Nothing, Outcome, Count, Found, Turn, Move, step, after, run, open-slot, in-hand, mended}
+use Rattle.rules.proofs.RankedSteps.{Call, Write, Ask, Collect, Deliver, Apply, Encode, Sweep, Answer, Refused, Tag, Value, Number, Still, Nothing, Outcome, Count, Found, Turn, Move, step, after, run, open-slot, in-hand, mendable, mended}
 
 module _ (g : Code) where
   -- the symbol of the server s of one cell r y of each object y
@@ -45,7 +45,7 @@ module _ (g : Code) where
       let p = S .servers b in
       let i = open-slot g p m in
       let r = in-hand (p .reads i) a (mended g p a (p .reads i) v st (g .k)) in
-      ltb i slots ≡ true → Tested (r .hand) (r .symbols) (r .object) f
+      ltb i slots ≡ true → mendable g p a (p .reads i) st ≡ true → Tested (r .hand) (r .symbols) (r .object) f
 
   abbrev pub Allowed : State → Call → Found → Type 0
   Allowed S (Write s x v) f = Unit {0}
