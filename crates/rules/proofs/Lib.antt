@@ -33,3 +33,4 @@ pub mod Latest
 pub mod Waits
 pub mod View
 pub mod Same
+pub mod SameLater

@@ -175,7 +175,7 @@ pub put-same : (S : State) (s : ℕ) (p : model.Server) (q : Server) (L : lanes.
 put-same S s p q L M ep eL = ap₂ (λ (z : model.Server) (l : lanes.Lanes Meaning). writing.put (state-at S) s z l) ep eL
     ∙ ap (λ (z : ℕ → model.Server). let T : model.State = record { servers = z; lanes = lanes-at M } in T) (upd-at server-at (S .servers) s q)
 
-history-room-same : (S : State) (s : ℕ) → writing.history-room (state-at S) s ≡ ltb (length (S .servers s .history)) depth
+pub history-room-same : (S : State) (s : ℕ) → writing.history-room (state-at S) s ≡ ltb (length (S .servers s .history)) depth
 history-room-same S s = ap (λ k. ltb k depth) (length-map (S .servers s .history) entry-at)
 
 -- checks in a row, by equal tests and with the numbers of their refusals
@@ -203,7 +203,7 @@ chain-at (c ∷ cs) h = ap₂ (λ (z : Bool) (o : Option Refusal). turns.check z
     by false = h .0 .1
 
 module _ (g : Code) where
-  room-same : (S : State) (s : ℕ) → writing.room (layout-of g) (state-at S) s ≡ Steps.room g S s
+  pub room-same : (S : State) (s : ℕ) → writing.room (layout-of g) (state-at S) s ≡ Steps.room g S s
   room-same S s = lanes-free-at (g .places) (g .n) s (S .lanes)
 
   -- ---- write
@@ -292,7 +292,7 @@ module _ (g : Code) where
           ∙ apply-at-same S s (Steps.next-ready g p (p .waiting) (length (p .waiting))))
 
   -- ---- read
-  open-done-same : (S : State) (s i x : ℕ) → reading-rule.open-done (layout-of g) (state-at S) s i x ≡ state-at (Steps.open-done g S s i x)
+  pub open-done-same : (S : State) (s i x : ℕ) → reading-rule.open-done (layout-of g) (state-at S) s i x ≡ state-at (Steps.open-done g S s i x)
   unfolding reading-rule.open-done Steps.open-done
   open-done-same S s i x =
       let p = S .servers s in
