@@ -1,3 +1,4 @@
+pub mod Lists
 pub mod RankedMessages
 pub mod Unranked
 pub mod Core
@@ -34,3 +35,5 @@ pub mod Waits
 pub mod View
 pub mod Same
 pub mod SameLater
+pub mod Told
+pub mod Standing

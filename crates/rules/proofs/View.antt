@@ -155,7 +155,7 @@ tag-made h s lt =
     let lo : (h * 6 + s) % 6 ≡ s = omega arith in
     ap₂ (λ (a b : ℕ). let t : declared.Tag = record { height = a; server = b } in t) (sym hi) (sym lo)
 
-later-at : (a b : ℕ) → later (tag-at a) (tag-at b) ≡ tag-at (max a b)
+pub later-at : (a b : ℕ) → later (tag-at a) (tag-at b) ≡ tag-at (max a b)
 later-at a b = cond-at tag-at (lower (tag-at a) (tag-at b)) b a ∙ ap (λ c. tag-at (cond c b a)) (lower-at a b) ∙ ap tag-at (cond-both (ltb a b) b a (λ z. z ≡ max a b) (λ q. let l = ltb-true a b q in omega arith) (λ q. grind (arith, tells)))
 
 earlier-at : (a b : ℕ) → earlier (tag-at a) (tag-at b) ≡ tag-at (min a b)

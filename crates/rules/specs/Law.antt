@@ -73,7 +73,7 @@ module _ (l : Layout) where
   -- An applied write brings its past: where it is applied, every write that its server had applied when it made it is applied.
   abbrev pub Past-applied : List Event → Type 0
   Past-applied es = Each-event es (λ before e. (j x : ℕ) (v : List ℕ) (t : Tag) → e .call ≡ Write j x v → e .answer ≡ Tagged t
-      → (s : ℕ) → Has (applied s es) t → (u : Tag) → Has (applied j before) u → Has (applied s es) u)
+      → (s : ℕ) → s < l .code .servers → Has (applied s es) t → (u : Tag) → Has (applied j before) u → Has (applied s es) u)
 
   -- No two accepted writes share a tag.
   abbrev pub Tags-differ : List Event → Type 0
@@ -91,8 +91,12 @@ module _ (l : Layout) where
     pub past-applied : Past-applied es
     pub tags-differ : Tags-differ es
 
--- The run law: over every field, every accepted code and every run of a new group, the law holds after the run.
--- What was called up to any point is a run itself, so the law holds after each call.
+-- After each call of every run: a run is made of the calls done so far and the later ones, on a new group, and P holds after those done,
+-- over every field, every accepted code and every run.
+abbrev pub Always : (Layout → List Event → State → Type 0) → Type 0
+Always P = (l : Layout) → Ring (l .code .arithmetic) → Accepted (l .code) → (done later : List Move) → Allowed-run l (new-group l) (done ++ later)
+    → P l (events l (new-group l) done) (run l (new-group l) done)
+
+-- The run law.
 abbrev pub Run-law : Type 0
-Run-law = (l : Layout) → Ring (l .code .arithmetic) → Accepted (l .code) → (ms : List Move) → Allowed-run l (new-group l) ms
-    → Law l (events l (new-group l) ms) (run l (new-group l) ms)
+Run-law = Always Law

@@ -1,0 +1,192 @@
+-- What stands after each call of a run, of its events and its state.
+use mathlib.Core.Path.{_≡_, refl, sym, ap, ap₂, _∙_, subst, fun-ext}
+use mathlib.Core.List.{List, [], _∷_, _++_, map, append-nil, append-assoc}
+use mathlib.Core.Bool.{Bool, true, false, cond, _&&_, _||_, not}
+use mathlib.Core.Logic.{_⊎_, inl, inr, ⊎-elim}
+use Prim.Native.Nat.{ℕ, zero, suc, _+_, _<_, _≤_, max}
+use native.Mathlib.Omega.{arith}
+use lib.Dec.{eqb, ltb, leb}
+use Rattle.std.specs.shelf.Lists.{All, Has}
+use Rattle.std.proofs.shelf.Lists.{map-append}
+use Rattle.std.proofs.shelf.Tests.{both-ways, and-right}
+use Rattle.message.specs.declared.tag.Tag as declared
+use Rattle.field.specs.Laws.{Ring}
+use Rattle.code.specs.Codings.{symbol}
+use Rattle.code.specs.Layout.{Accepted}
+use Rattle.rules.specs.Histories as history
+use Rattle.rules.specs.Histories.{has-entry}
+use Rattle.rules.specs.State as model
+use Rattle.rules.specs.State.{Layout, new-group}
+use Rattle.rules.specs.Turns as turns
+use Rattle.rules.specs.Turns.{Call, Write, Read as Ask, Collect, Deliver, Apply, Encode, Sweep, Found}
+use Rattle.rules.specs.Runs as runs
+use Rattle.rules.specs.Runs.{Move}
+use Rattle.rules.specs.Events as told
+use Rattle.rules.specs.Events.{Event, event, events}
+use Rattle.rules.specs.Law as rule
+use Rattle.rules.proofs.Lists.{each-push}
+use Rattle.rules.proofs.Unranked.{tag-at, message-at}
+use Rattle.rules.proofs.Ranked.{Code, layout-of, Entry, Server, State, enters, kept, fresh, slots}
+use Rattle.rules.proofs.RankedSteps as Steps
+use Rattle.rules.proofs.RankedSteps.{Answer, Refused, Tag, Value, Number, Still, Nothing, Outcome, Count, Turn, write-refusal, write-tag}
+use Rattle.rules.proofs.RankedLaw as law
+use Rattle.rules.proofs.RankedLaw.{accepted-by, applies, best, Lawful, Waits}
+use Rattle.rules.proofs.View.{entry-at, state-at, answer-at, turn-at, fresh-at, has-entry-at, holds-at}
+use Rattle.rules.proofs.Told.{step-same, allowed, Tells, latest-same, given-same, tells-push}
+use Rattle.rules.proofs.Deliver.{deliver-six}
+use Rattle.rules.proofs.Cases.{write-cases}
+use Rattle.rules.proofs.Coded.{checked-write}
+use Rattle.rules.proofs.Growing.{new-tag}
+use Rattle.rules.proofs.Algebra.{mix-symbol}
+use Rattle.rules.proofs.Latest.{Known, step-known, fresh-known, also}
+use Rattle.rules.proofs.Peaks.{read-latest}
+use Rattle.rules.proofs.Waits.{step-waits}
+
+-- ---- the ranked code of a layout
+
+abbrev pub code-of : Layout → Code
+code-of l = record {
+    n = l .code .servers; k = l .code .objects; w = l .code .cells; places = l .places; q = l .code .arithmetic .size
+  ; plus = l .code .arithmetic .plus; minus = l .code .arithmetic .minus; times = l .code .arithmetic .times; coefficient = l .code .coefficient }
+
+pub lawful : (l : Layout) → Ring (l .code .arithmetic) → Accepted (l .code) → Lawful (code-of l)
+lawful l r a = record {
+    servers = a .least-servers; few = a .most-servers; objects = a .least-objects; few-objects = a .most-objects; cells = a .least-cells; few-cells = a .most-cells; small = r .most
+  ; coefficients = a .elements; least = r .least; plus-below = r .plus-below; minus-below = r .minus-below; times-below = r .times-below
+  ; plus-comm = r .plus-comm; plus-assoc = r .plus-assoc; plus-zero = r .plus-zero; plus-minus = r .plus-minus; times-comm = r .times-comm; times-plus = r .times-plus }
+
+-- ---- what a ranked answer was
+
+pub outcome-was : (a : Answer) (o : ℕ) → answer-at a ≡ turns.Outcome o → a ≡ Outcome o
+outcome-was (Refused r) o e = absurd (let z : _≡_ {A = ℕ} 0 1 = cc in omega arith)
+outcome-was (Tag t) o e = absurd (let z : _≡_ {A = ℕ} 0 1 = cc in omega arith)
+outcome-was (Value v t w) o e = absurd (let z : _≡_ {A = ℕ} 0 1 = cc in omega arith)
+outcome-was (Number p) o e = absurd (let z : _≡_ {A = ℕ} 0 1 = cc in omega arith)
+outcome-was Still o e = absurd (let z : _≡_ {A = ℕ} 0 1 = cc in omega arith)
+outcome-was Nothing o e = absurd (let z : _≡_ {A = ℕ} 0 1 = cc in omega arith)
+outcome-was (Outcome p) o e = let z : p ≡ o = cc in ap Outcome z
+outcome-was (Count c) o e = absurd (let z : _≡_ {A = ℕ} 0 1 = cc in omega arith)
+
+pub record Was-value (a : Answer) (v : List ℕ) (t : declared.Tag) (way : ℕ) : Type 0 where
+  pub ranked : ℕ
+  pub is : a ≡ Value v ranked way
+  pub tag : t ≡ tag-at ranked
+
+pub value-was : (a : Answer) (v : List ℕ) (t : declared.Tag) (way : ℕ) → answer-at a ≡ turns.Valued v t way → Was-value a v t way
+value-was (Refused r) v t way e = absurd (let z : _≡_ {A = ℕ} 0 1 = cc in omega arith)
+value-was (Tag u) v t way e = absurd (let z : _≡_ {A = ℕ} 0 1 = cc in omega arith)
+value-was (Value u r w) v t way e = let p : u ≡ v = cc in let q : t ≡ tag-at r = cc in let z : w ≡ way = cc in
+    record { ranked = r; is = ap₂ (λ (x : List ℕ) (y : ℕ). Value x r y) p z; tag = q }
+value-was (Number p) v t way e = absurd (let z : _≡_ {A = ℕ} 0 1 = cc in omega arith)
+value-was Still v t way e = absurd (let z : _≡_ {A = ℕ} 0 1 = cc in omega arith)
+value-was Nothing v t way e = absurd (let z : _≡_ {A = ℕ} 0 1 = cc in omega arith)
+value-was (Outcome p) v t way e = absurd (let z : _≡_ {A = ℕ} 0 1 = cc in omega arith)
+value-was (Count c) v t way e = absurd (let z : _≡_ {A = ℕ} 0 1 = cc in omega arith)
+
+-- ---- no two writes share a tag
+
+abbrev pub Differ : List history.Entry → Type 0
+Differ ws = (before : List history.Entry) (w : history.Entry) (later : List history.Entry) → ws ≡ before ++ w ∷ later → (x : ℕ) → has-entry before x (w .tag) ≡ false
+
+module _ (g : Code) (R : Lawful g) (L : List Entry) (A : ℕ → List ℕ) (S : State) (h : Known g R L A S) where
+  step-differ : Differ (map entry-at L) → (c : Call) (f : Found) → Differ (map entry-at (L ++ accepted-by c (Steps.step g S c f .answer)))
+  step-differ d (Write s x v) f = write-cases g S (λ t. Differ (map entry-at (L ++ accepted-by (Write s x v) (t .answer)))) (λ r. subst (λ l. Differ (map entry-at l)) (sym (append-nil L)) d) s x v (λ ok.
+      let sn = checked-write g S s x v ok .0 in
+      let e : Entry = record { object = x; tag = write-tag g (S .servers s) s; value = v } in
+      subst Differ (sym (map-append entry-at L (e ∷ []))) (each-push (λ before w. (y : ℕ) → has-entry before y (w .tag) ≡ false) (map entry-at L) (entry-at e) d
+        (λ y. has-entry-at L y (e .tag) ∙ new-tag L s (S .servers s .top) y (let few = R .few in omega arith) (h .told .tops s sn))))
+  step-differ d (Ask s x l) f = subst (λ l. Differ (map entry-at l)) (sym (append-nil L)) d
+  step-differ d (Collect s m l) f = subst (λ l. Differ (map entry-at l)) (sym (append-nil L)) d
+  step-differ d (Deliver a b) f = subst (λ l. Differ (map entry-at l)) (sym (append-nil L)) d
+  step-differ d (Apply s) f = subst (λ l. Differ (map entry-at l)) (sym (append-nil L)) d
+  step-differ d (Encode s x) f = subst (λ l. Differ (map entry-at l)) (sym (append-nil L)) d
+  step-differ d (Sweep s x) f = subst (λ l. Differ (map entry-at l)) (sym (append-nil L)) d
+
+-- ---- the joint invariant
+
+pub record Stand (g : Code) (R : Lawful g) (es : List Event) (seen : model.State) : Type 0 where
+  pub log : List Entry
+  pub done : ℕ → List ℕ
+  pub state : State
+  pub view : seen ≡ state-at state
+  pub tells : Tells es log done
+  pub known : Known g R log done state
+  pub waits : Waits g state
+  pub differ : Differ (map entry-at log)
+  pub usable : rule.Replies-usable (layout-of g) es
+  pub at-once : rule.Read-at-once (layout-of g) es
+
+module _ (g : Code) (R : Lawful g) (es : List Event) (L : List Entry) (A : ℕ → List ℕ) (S : State) (tells : Tells es L A) (known : Known g R L A S) (m : Move) (ok : runs.Allowed (layout-of g) (state-at S) (m .call) (m .found)) where
+  answer-same : event (layout-of g) (state-at S) m .answer ≡ answer-at (Steps.step g S (m .call) (m .found) .answer)
+  answer-same = ap (λ (t : turns.Turn). t .answer) (step-same g (R .few) S (m .call) (m .found))
+
+  six-never : (a b : ℕ) → m .call ≡ Deliver a b → event (layout-of g) (state-at S) m .answer ≡ turns.Outcome 6 → ⊥
+  six-never a b ec ea = deliver-six g S (known .told .stands .fine) a b (m .found)
+      (subst (λ c. Steps.step g S c (m .found) .answer ≡ Outcome 6) ec (outcome-was (Steps.step g S (m .call) (m .found) .answer) 6 (sym answer-same ∙ ea)))
+
+  once : (s x cells : ℕ) (v : List ℕ) (t : declared.Tag) (way : ℕ) → m .call ≡ Ask s x cells → event (layout-of g) (state-at S) m .answer ≡ turns.Valued v t way
+      → (t ≡ told.latest s x es) × (v ≡ told.given (layout-of g) es x t)
+  once s x cells v t way ec ea =
+      let was = value-was (Steps.step g S (m .call) (m .found) .answer) v t way (sym answer-same ∙ ea) in
+      let q = read-latest g L A S (known .told .stands .fine) (known .peaks) R (known .told .cells) (known .told .sourced) (known .told .valued) s x cells (m .found)
+                (subst (λ c. law.Allowed g S c (m .found)) ec (allowed g S (m .call) (m .found) ok)) v (was .ranked) way
+                (subst (λ c. Steps.step g S c (m .found) .answer ≡ Value v (was .ranked) way) ec (was .is)) in
+      (was .tag ∙ ap tag-at (q .0) ∙ sym (latest-same es L A tells s x),
+       q .1 ∙ sym (ap (told.given (layout-of g) es x) (was .tag) ∙ given-same g es L A tells x (was .ranked)))
+
+  pub step-stands : Waits g S → Differ (map entry-at L) → rule.Replies-usable (layout-of g) es → rule.Read-at-once (layout-of g) es
+      → Stand g R (es ++ event (layout-of g) (state-at S) m ∷ []) (runs.after (layout-of g) (state-at S) m)
+  step-stands waits differ usable at-once = record {
+      log = L ++ accepted-by (m .call) (Steps.step g S (m .call) (m .found) .answer)
+    ; done = also A (m .call) (Steps.step g S (m .call) (m .found) .answer)
+    ; state = Steps.after g S m
+    ; view = ap (λ (t : turns.Turn). t .next) (step-same g (R .few) S (m .call) (m .found))
+    ; tells = tells-push es L A tells (event (layout-of g) (state-at S) m) (m .call) (Steps.step g S (m .call) (m .found) .answer) refl answer-same
+    ; known = step-known g R L A S known m (allowed g S (m .call) (m .found) ok)
+    ; waits = step-waits g S waits (m .call) (m .found) (allowed g S (m .call) (m .found) ok)
+    ; differ = step-differ g R L A S known differ (m .call) (m .found)
+    ; usable = each-push (λ before e. (a b : ℕ) → e .call ≡ Deliver a b → e .answer ≡ turns.Outcome 6 → ⊥) es (event (layout-of g) (state-at S) m) usable six-never
+    ; at-once = each-push (λ before e. (s x cells : ℕ) (v : List ℕ) (t : declared.Tag) (way : ℕ) → e .call ≡ Ask s x cells → e .answer ≡ turns.Valued v t way → (t ≡ told.latest s x before) × (v ≡ told.given (layout-of g) before x t))
+        es (event (layout-of g) (state-at S) m) at-once once }
+
+pub move-stands : (g : Code) (R : Lawful g) (es : List Event) (seen : model.State) → Stand g R es seen → (m : Move) → runs.Allowed (layout-of g) seen (m .call) (m .found)
+    → Stand g R (es ++ event (layout-of g) seen m ∷ []) (runs.after (layout-of g) seen m)
+move-stands g R es seen h m = subst (λ (z : model.State). runs.Allowed (layout-of g) z (m .call) (m .found) → Stand g R (es ++ event (layout-of g) z m ∷ []) (runs.after (layout-of g) z m)) (sym (h .view))
+    (λ ok. step-stands g R es (h .log) (h .done) (h .state) (h .tells) (h .known) m ok (h .waits) (h .differ) (h .usable) (h .at-once))
+
+-- the calls done so far, of a run that goes on
+pub run-stands : (g : Code) (R : Lawful g) (es : List Event) (seen : model.State) → Stand g R es seen → (done later : List Move) → runs.Allowed-run (layout-of g) seen (done ++ later)
+    → Stand g R (es ++ events (layout-of g) seen done) (runs.run (layout-of g) seen done)
+run-stands g R es seen h [] later ok = subst (λ l. Stand g R l seen) (sym (append-nil es)) h
+run-stands g R es seen h (m ∷ ms) later ok =
+    subst (λ l. Stand g R l (runs.run (layout-of g) (runs.after (layout-of g) seen m) ms)) (append-assoc es (event (layout-of g) seen m ∷ []) (events (layout-of g) (runs.after (layout-of g) seen m) ms))
+      (run-stands g R (es ++ event (layout-of g) seen m ∷ []) (runs.after (layout-of g) seen m) (move-stands g R es seen h m (ok .0)) ms later (ok .1))
+
+never-split : {X : Type 0} (before : List X) (z : X) (later : List X) → [] ≡ before ++ z ∷ later → ⊥
+never-split [] z later e = let q : _≡_ {A = ℕ} 0 1 = cc in omega arith
+never-split (b ∷ bs) z later e = let q : _≡_ {A = ℕ} 0 1 = cc in omega arith
+
+pub new-stands : (g : Code) (R : Lawful g) → Stand g R [] (new-group (layout-of g))
+new-stands g R = record {
+    log = []; done = λ _. []; state = fresh g; view = fresh-at g
+  ; tells = record { writes = refl; applied = λ k. refl }
+  ; known = fresh-known g R
+  ; waits = λ s i sn lv. absurd (both-ways (ltb i slots && false) (and-right (ltb i slots) false refl) lv)
+  ; differ = λ before w later e. absurd (never-split before w later e)
+  ; usable = λ before e later q. absurd (never-split before e later q)
+  ; at-once = λ before e later q. absurd (never-split before e later q) }
+
+-- ---- from the invariant to the law
+
+module _ (g : Code) (R : Lawful g) (es : List Event) (seen : model.State) (h : Stand g R es seen) where
+  pub encoded-from : rule.Encoded (layout-of g) es seen
+  encoded-from = subst (rule.Encoded (layout-of g) es) (sym (h .view)) (record {
+      tags-accepted = λ s x sn. ap (λ l. history.holds l x (tag-at (S .servers s .own x))) (h .tells .writes) ∙ holds-at (h .log) x (S .servers s .own x) ∙ h .known .told .sourced .servers s .own x
+    ; symbols-right = λ s sn. mix-symbol g R (h .log) s (S .servers s .own) (S .servers s .symbol) (h .known .told .valued .servers s sn .symbol)
+        ∙ ap (symbol (layout-of g .code) s) (sym (fun-ext (λ x. given-same g es (h .log) (h .done) (h .tells) x (S .servers s .own x)))) })
+    where
+      S : State
+      S = h .state
+
+  pub differ-from : rule.Tags-differ (layout-of g) es
+  differ-from before w later e = h .differ before w later (sym (h .tells .writes) ∙ e)
