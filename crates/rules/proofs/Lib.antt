@@ -32,6 +32,7 @@ pub mod Coded
 pub mod Peaks
 pub mod Latest
 pub mod Waits
+pub mod Past
 pub mod View
 pub mod Same
 pub mod SameLater
