@@ -65,7 +65,15 @@ shut rs i q c k e = elim (cases-eq k i) [
     inl w ↦ absurd (both-ways (is-open q) c (ap is-open (sym (ap (upd rs i q) w ∙ upd-same rs i q)) ∙ and-parts (ltb k slots) (is-open (upd rs i q k)) e .1))
   | inr ne ↦ upd-other rs i k q ne ]
 
-pub record Receives (p r : Server) : Type 0 where
+-- the waiting writes are as before, or the front of the lane from a joins them
+pub data Queues (a : ℕ) (lane : List Message) (p r : Server) : Type 0 where
+  as-before : r .waiting ≡ p .waiting → Queues a lane p r
+  joins : (x : ℕ) (v : List ℕ) (h : ℕ) (ck : List ℕ) (ms : List Message) → lane ≡ Written x v h ck ∷ ms
+      → r .waiting ≡ p .waiting ++ record { object = x; tag = tag h a; value = v; clock = ck } ∷ [] → Queues a lane p r
+
+pub record Receives (a : ℕ) (lane : List Message) (p r : Server) : Type 0 where
+  pub clock : r .clock ≡ p .clock
+  pub waiting : Queues a lane p r
   pub top : r .top ≡ p .top
   pub own : r .own ≡ p .own
   pub history : Entering p r
@@ -82,6 +90,14 @@ module _ (g : Code) (S : State) (Φ : Turn → Type 0) (refused : (r : ℕ) → 
   unfolding apply-picked
   picked-cases s None e none some = none
   picked-cases s (Some b) e none some = unless-both Φ (check (history-room g S s) 15 0) S (turn (Tag (wait-tag g (b .write))) (apply-done g S s (b .write) (b .others))) (refused _) (λ _. some b e)
+
+  -- the same, with the server
+  pub apply-cases-at : (s : ℕ) → Φ (turn Nothing S)
+      → ((b : Picked) → s < g .n → picked g (S .servers s) (S .servers s .waiting) ≡ Some b → Φ (turn (Tag (wait-tag g (b .write))) (apply-done g S s (b .write) (b .others)))) → Φ (apply g S s)
+  unfolding apply
+  apply-cases-at s none some = unless-both Φ (check (ltb s (g .n)) 7 0) S (apply-picked g S s (picked g (S .servers s) (S .servers s .waiting))) (refused _) (λ ok.
+      let sn = ltb-true s (g .n) (checked (ltb s (g .n)) 7 0 (omega arith) ok .0) in
+      picked-cases s (picked g (S .servers s) (S .servers s .waiting)) refl none (λ b e. some b sn e))
 
   pub apply-cases : (s : ℕ) → Φ (turn Nothing S)
       → ((b : Picked) → picked g (S .servers s) (S .servers s .waiting) ≡ Some b → Φ (turn (Tag (wait-tag g (b .write))) (apply-done g S s (b .write) (b .others)))) → Φ (apply g S s)
@@ -179,33 +195,33 @@ module _ (g : Code) (S : State) (Φ : Turn → Type 0) (refused : (r : ℕ) → 
 
   -- a delivery ends in a state in which the receiver is another, or in a reply
   pub deliver-cases : (a b : ℕ) (f : Found)
-      → ((o : ℕ) (r : Server) → Receives (S .servers b) r → ((i : ℕ) → (ltb i slots && is-open (r .reads i)) ≡ true → r .reads i ≡ S .servers b .reads i) → Φ (turn (Outcome o) (take-done g S a b r)))
+      → ((o : ℕ) (r : Server) → Receives a (S .lanes a b) (S .servers b) r → ((i : ℕ) → (ltb i slots && is-open (r .reads i)) ≡ true → r .reads i ≡ S .servers b .reads i) → Φ (turn (Outcome o) (take-done g S a b r)))
       → ((m : ℕ) (v st : List ℕ) (ms : List Message) → a < g .n → b < g .n → S .lanes a b ≡ Coded m v st ∷ ms → ltb (open-slot g (S .servers b) m) slots ≡ true → f .recovered ≡ false
           → mendable g (S .servers b) a (S .servers b .reads (open-slot g (S .servers b) m)) st ≡ true
-          → Receives (S .servers b) (waiting-on a b m v st) → Φ (turn (Outcome 3) (take-done g S a b (waiting-on a b m v st))))
-      → ((o : ℕ) (m : Message) → Φ (turn (Outcome o) (question-done g S a b m)))
+          → Receives a (S .lanes a b) (S .servers b) (waiting-on a b m v st) → Φ (turn (Outcome 3) (take-done g S a b (waiting-on a b m v st))))
+      → ((o m x : ℕ) (T : List ℕ) → Φ (turn (Outcome o) (question-done g S a b (reply g b (S .servers b) m x T))))
       → Φ (deliver g S a b f)
   unfolding deliver
   deliver-cases a b f takes waits asks = unless-both Φ (lane-refusal g a b) S (oldest g S a b (S .lanes a b) f) (refused _) (λ ok. front (lane-ends g a b ok .0) (lane-ends g a b ok .1) (S .lanes a b) refl)
     where
-      plain : (r : Server) → r .top ≡ S .servers b .top → r .own ≡ S .servers b .own → r .history ≡ S .servers b .history → ((i : ℕ) → (ltb i slots && is-open (r .reads i)) ≡ true → Was-open (S .servers b) r i) → Receives (S .servers b) r
-      plain r t o h q = record { top = t; own = o; history = as-was h; reads = q }
+      plain : (r : Server) → r .clock ≡ S .servers b .clock → Queues a (S .lanes a b) (S .servers b) r → r .top ≡ S .servers b .top → r .own ≡ S .servers b .own → r .history ≡ S .servers b .history → ((i : ℕ) → (ltb i slots && is-open (r .reads i)) ≡ true → Was-open (S .servers b) r i) → Receives a (S .lanes a b) (S .servers b) r
+      plain r c w t o h q = record { clock = c; waiting = w; top = t; own = o; history = as-was h; reads = q }
       found-open : (m : ℕ) → ltb (open-slot g (S .servers b) m) slots ≡ true → (ltb (open-slot g (S .servers b) m) slots && is-open (S .servers b .reads (open-slot g (S .servers b) m))) ≡ true
       found-open m e = and-from (ltb (open-slot g (S .servers b) m) slots) (is-open (S .servers b .reads (open-slot g (S .servers b) m))) e (open-found g (S .servers b) m e .0)
       settles : (i : ℕ) (r : Read) (v : List ℕ) → (ltb i slots && is-open (S .servers b .reads i)) ≡ true → r .object ≡ S .servers b .reads i .object → r .tags ≡ S .servers b .reads i .tags → Φ (settle g S a b i r v)
       settles i r v lv eo et = unfold settle in
           cond-both (ltb i clients) (turn (Outcome 4) (take-done g S a b (client-answer g (S .servers b) i r v))) (unless (check (history-room g S b) 15 0) S (turn (Outcome 4) (take-done g S a b (internal-answer g (S .servers b) i r v)))) Φ
-            (λ _. takes 4 (client-answer g (S .servers b) i r v) (unfold reading in plain (client-answer g (S .servers b) i r v) refl refl refl (open-upd (S .servers b) (client-answer g (S .servers b) i r v) i (answered r v (r .tags (r .object)) 3) refl (λ z. absurd (both-ways false refl z)))) (unfold reading in shut (S .servers b .reads) i (answered r v (r .tags (r .object)) 3) refl))
-            (λ _. unless-both Φ (check (history-room g S b) 15 0) S (turn (Outcome 4) (take-done g S a b (internal-answer g (S .servers b) i r v))) (refused _) (λ _. takes 4 (internal-answer g (S .servers b) i r v) (unfold reading entered in record { top = refl; own = refl; history = answer-of i v lv (ap₂ (λ (x : ℕ) (T : ℕ → ℕ). S .servers b .history ++ record { object = x; tag = T x; value = v } ∷ []) eo et); reads = open-upd (S .servers b) (internal-answer g (S .servers b) i r v) i no-read refl (λ z. absurd (both-ways false refl z)) }) (unfold reading entered in shut (S .servers b .reads) i no-read refl)))
+            (λ _. takes 4 (client-answer g (S .servers b) i r v) (unfold reading in plain (client-answer g (S .servers b) i r v) refl (as-before refl) refl refl refl (open-upd (S .servers b) (client-answer g (S .servers b) i r v) i (answered r v (r .tags (r .object)) 3) refl (λ z. absurd (both-ways false refl z)))) (unfold reading in shut (S .servers b .reads) i (answered r v (r .tags (r .object)) 3) refl))
+            (λ _. unless-both Φ (check (history-room g S b) 15 0) S (turn (Outcome 4) (take-done g S a b (internal-answer g (S .servers b) i r v))) (refused _) (λ _. takes 4 (internal-answer g (S .servers b) i r v) (unfold reading entered in record { clock = refl; waiting = as-before refl; top = refl; own = refl; history = answer-of i v lv (ap₂ (λ (x : ℕ) (T : ℕ → ℕ). S .servers b .history ++ record { object = x; tag = T x; value = v } ∷ []) eo et); reads = open-upd (S .servers b) (internal-answer g (S .servers b) i r v) i no-read refl (λ z. absurd (both-ways false refl z)) }) (unfold reading entered in shut (S .servers b .reads) i no-read refl)))
       gets : (z : Message) (ms : List Message) → a < g .n → b < g .n → S .lanes a b ≡ z ∷ ms → Φ (got g S a b z f)
       gets (Written x v t ck) ms an bn l = unfold got in unless-both Φ (check (ltb (length (S .servers b .waiting)) queue) 18 0) S
-          (turn (Outcome 0) (take-done g S a b (queued (S .servers b) (S .servers b .waiting ++ record { object = x; tag = tag t a; value = v; clock = ck } ∷ [])))) (refused _) (λ _. takes 0 _ (unfold queued in plain (queued (S .servers b) (S .servers b .waiting ++ record { object = x; tag = tag t a; value = v; clock = ck } ∷ [])) refl refl refl (open-same (S .servers b) _ refl)) (λ i e. unfold queued in refl))
-      gets (Tagged x t) ms an bn l = unfold got in takes 0 (hearing (S .servers b) x a t) (unfold hearing in plain (hearing (S .servers b) x a t) refl refl refl (open-same (S .servers b) _ refl)) (λ i e. unfold hearing in refl)
+          (turn (Outcome 0) (take-done g S a b (queued (S .servers b) (S .servers b .waiting ++ record { object = x; tag = tag t a; value = v; clock = ck } ∷ [])))) (refused _) (λ _. takes 0 _ (unfold queued in plain (queued (S .servers b) (S .servers b .waiting ++ record { object = x; tag = tag t a; value = v; clock = ck } ∷ [])) refl (joins x v t ck ms l refl) refl refl refl (open-same (S .servers b) _ refl)) (λ i e. unfold queued in refl))
+      gets (Tagged x t) ms an bn l = unfold got in takes 0 (hearing (S .servers b) x a t) (unfold hearing in plain (hearing (S .servers b) x a t) refl (as-before refl) refl refl refl (open-same (S .servers b) _ refl)) (λ i e. unfold hearing in refl)
       gets (Question m x T) ms an bn l = unfold got in unless-both Φ (check (ltb (length (S .lanes b a)) (g .places)) 17 0) S
-          (turn (Outcome (cond (holds (S .servers b .history) x (getD T x 0)) 1 2)) (question-done g S a b (reply g b (S .servers b) m x T))) (refused _) (λ _. asks _ (reply g b (S .servers b) m x T))
+          (turn (Outcome (cond (holds (S .servers b .history) x (getD T x 0)) 1 2)) (question-done g S a b (reply g b (S .servers b) m x T))) (refused _) (λ _. asks _ m x T)
       gets (Plain m v) ms an bn l = unfold got in
           let i = open-slot g (S .servers b) m in
-          cond-both (ltb i slots) (settle g S a b i (S .servers b .reads i) v) (turn (Outcome 5) (take-done g S a b (S .servers b))) Φ (λ e. settles i (S .servers b .reads i) v (found-open m e) refl refl) (λ _. takes 5 (S .servers b) (plain (S .servers b) refl refl refl (open-same (S .servers b) (S .servers b) refl)) (λ i e. refl))
+          cond-both (ltb i slots) (settle g S a b i (S .servers b .reads i) v) (turn (Outcome 5) (take-done g S a b (S .servers b))) Φ (λ e. settles i (S .servers b .reads i) v (found-open m e) refl refl) (λ _. takes 5 (S .servers b) (plain (S .servers b) refl (as-before refl) refl refl refl (open-same (S .servers b) (S .servers b) refl)) (λ i e. refl))
       gets (Coded m v st) ms an bn l = unfold got in
           let p = S .servers b in
           let i = open-slot g p m in
@@ -215,9 +231,9 @@ module _ (g : Code) (S : State) (Φ : Turn → Type 0) (refused : (r : ℕ) → 
           let wait = turn (Outcome 3) (take-done g S a b (reading p (upd (p .reads) i r′))) in
           cond-both (ltb i slots) (cond (mendable g p a r st) (cond (f .recovered) (settle g S a b i r′ (f .value)) wait) useless) (turn (Outcome 5) (take-done g S a b p)) Φ
             (λ e. cond-both (mendable g p a r st) (cond (f .recovered) (settle g S a b i r′ (f .value)) wait) useless Φ
-              (λ mend. cond-both (f .recovered) (settle g S a b i r′ (f .value)) wait Φ (λ _. settles i r′ (f .value) (found-open m e) refl refl) (λ q. waits m v st ms an bn l e q mend (unfold reading in plain (reading p (upd (p .reads) i r′)) refl refl refl (open-upd p (reading p (upd (p .reads) i r′)) i r′ refl (λ z. (z, refl, refl))))))
-              (λ _. takes 6 p (plain p refl refl refl (open-same p p refl)) (λ i e. refl)))
-            (λ _. takes 5 p (plain p refl refl refl (open-same p p refl)) (λ i e. refl))
+              (λ mend. cond-both (f .recovered) (settle g S a b i r′ (f .value)) wait Φ (λ _. settles i r′ (f .value) (found-open m e) refl refl) (λ q. waits m v st ms an bn l e q mend (unfold reading in plain (reading p (upd (p .reads) i r′)) refl (as-before refl) refl refl refl (open-upd p (reading p (upd (p .reads) i r′)) i r′ refl (λ z. (z, refl, refl))))))
+              (λ _. takes 6 p (plain p refl (as-before refl) refl refl refl (open-same p p refl)) (λ i e. refl)))
+            (λ _. takes 5 p (plain p refl (as-before refl) refl refl refl (open-same p p refl)) (λ i e. refl))
       front : a < g .n → b < g .n → (l : List Message) → S .lanes a b ≡ l → Φ (oldest g S a b l f)
       front an bn [] q = unfold oldest in refused 13
-      front an bn (m ∷ ms) q = unfold oldest in cond-both (fits g m) (got g S a b m f) (turn (Outcome 7) (take-done g S a b (S .servers b))) Φ (λ _. gets m ms an bn q) (λ _. takes 7 (S .servers b) (plain (S .servers b) refl refl refl (open-same (S .servers b) (S .servers b) refl)) (λ i e. refl))
+      front an bn (m ∷ ms) q = unfold oldest in cond-both (fits g m) (got g S a b m f) (turn (Outcome 7) (take-done g S a b (S .servers b))) Φ (λ _. gets m ms an bn q) (λ _. takes 7 (S .servers b) (plain (S .servers b) refl (as-before refl) refl refl refl (open-same (S .servers b) (S .servers b) refl)) (λ i e. refl))

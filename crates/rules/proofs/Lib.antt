@@ -33,6 +33,7 @@ pub mod Peaks
 pub mod Latest
 pub mod Waits
 pub mod Past
+pub mod Notices
 pub mod View
 pub mod Same
 pub mod SameLater

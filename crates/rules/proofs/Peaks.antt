@@ -182,7 +182,7 @@ module _ (g : Code) where
     history-peak p r eo low (answer-of i v lv e) x = ap₂ (λ (o : ℕ → ℕ) (es : List Entry). max (o x) (top-tag x es)) eo e
         ∙ entered-peak p (record { object = p .reads i .object; tag = p .reads i .tags (p .reads i .object); value = v }) (low i lv (p .reads i .object)) x
 
-    take-peaks : (a b : ℕ) (r : Server) → Receives (S .servers b) r → Peaks L A (take-done g S a b r)
+    take-peaks : (a b : ℕ) (r : Server) → Receives a (S .lanes a b) (S .servers b) r → Peaks L A (take-done g S a b r)
     unfolding take-done
     take-peaks a b r q = put-peaks b r _ (history-peak (S .servers b) r (q .own) (λ i lv y. f .reads b i lv .1 y) (q .history))
         (λ i ic lv bn. let w = q .reads i lv in
@@ -193,7 +193,7 @@ module _ (g : Code) where
     question-peaks a b m = record { peaks = h .peaks; asked = h .asked }
 
     pub deliver-peaks : (a b : ℕ) (d : Found) → Kept (deliver g S a b d)
-    deliver-peaks a b d = deliver-cases g S Kept (λ r. h) a b d (λ o r q _. take-peaks a b r q) (λ m v st ms _ _ _ _ _ _ q. take-peaks a b _ q) (λ o m. question-peaks a b m)
+    deliver-peaks a b d = deliver-cases g S Kept (λ r. h) a b d (λ o r q _. take-peaks a b r q) (λ m v st ms _ _ _ _ _ _ q. take-peaks a b _ q) (λ o m x T. question-peaks a b (reply g b (S .servers b) m x T))
 
     -- ---- a read that is answered at once is answered by the latest
     pub read-latest : (R : Lawful g) (cells : Cells g R L) (src : Sourced g (Of-entry g R L) (Of-tag g R L) S) (val : Valued g R L S) (s x l : ℕ) (d : Found)
