@@ -4,6 +4,8 @@ use mathlib.Core.List.{List, [], _∷_, _++_, map}
 use mathlib.Core.Logic.{_⊎_, inl, inr, ⊎-elim}
 use Prim.Native.Nat.{ℕ, zero, suc, _+_, _<_}
 use native.Mathlib.Omega.{arith}
+use Rattle.std.specs.shelf.Lists.{All, Has}
+use Rattle.std.proofs.shelf.Elements.{all-has, all-has-itself, all-map, all-weaker}
 
 module _ {X : Type 0} where
   -- a list, split at an element
@@ -31,3 +33,19 @@ module _ {X : Type 0} where
   each-push P xs y h new before z later e = ⊎-elim
       (λ p. subst (λ b. P b z) (p .0) (subst (P xs) (p .1) new))
       (λ (p : Split xs before z). h before z (p .later) (p .is)) (split-push xs y before z later e)
+
+-- an element of a mapped list is the image of an element
+pub record Image {X Y : Type 0} (f : X → Y) (xs : List X) (y : Y) : Type 0 where
+  pub from : X
+  pub has : Has xs from
+  pub is : f from ≡ y
+
+pub has-image : {X Y : Type 0} (f : X → Y) (xs : List X) (y : Y) → Has (map f xs) y → Image f xs y
+has-image f xs y h = all-has (Image f xs) (map f xs) y (all-map (Image f xs) f xs (all-weaker (Has xs) (λ x. Image f xs (f x)) (λ x q. record { from = x; has = q; is = refl }) xs (all-has-itself xs))) h
+
+all-unmap : {X Y : Type 0} (P : Y → Type 0) (f : X → Y) (xs : List X) → All P (map f xs) → All (λ x. P (f x)) xs
+all-unmap P f [] h = tt
+all-unmap P f (x ∷ xs) h = (h .0, all-unmap P f xs (h .1))
+
+pub image-has : {X Y : Type 0} (f : X → Y) (xs : List X) (x : X) → Has xs x → Has (map f xs) (f x)
+image-has f xs x h = all-has (λ z. Has (map f xs) (f z)) xs x (all-unmap (Has (map f xs)) f xs (all-has-itself (map f xs))) h

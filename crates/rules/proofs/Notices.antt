@@ -186,6 +186,10 @@ picked-takes g W p b all = from (next-ready g p (p .waiting) (length (p .waiting
 abbrev pub clocks : State → ℕ → ℕ → ℕ
 clocks S s j = S .servers s .clock j
 
+-- the write that s makes with the tag t
+abbrev pub made-write : Code → (ℕ → List ℕ) → State → ℕ → ℕ → Made
+made-write g A S s t = record { tag = t; clock = listed (g .n) (upd (S .servers s .clock) s (S .servers s .clock s + 1)); past = A s }
+
 pub record Traced (g : Code) (W : Writes) (A : ℕ → List ℕ) (S : State) : Type 0 where
   pub counts : Counts (g .n) W A (clocks S)
   pub notices : Notices (g .n) W S
@@ -196,7 +200,7 @@ counts-same n W A B C D ea ec h = subst (λ (X : ℕ → List ℕ). Counts n W X
 module _ (g : Code) (R : Lawful g) (L : List Entry) (A : ℕ → List ℕ) (S : State) (known : Known g R L A S) (W : Writes) (h : Traced g W A S) where
   -- the writes after a call: one more where a write was accepted
   abbrev pub made-by : Call → Answer → Writes
-  made-by (Write s x v) (Tag t) = pushed W s (record { tag = t; clock = listed (g .n) (upd (S .servers s .clock) s (S .servers s .clock s + 1)); past = A s })
+  made-by (Write s x v) (Tag t) = pushed W s (made-write g A S s t)
   made-by (Write s x v) (Refused r) = W
   made-by (Write s x v) (Value u t w) = W
   made-by (Write s x v) (Number p) = W

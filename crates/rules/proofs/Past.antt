@@ -66,6 +66,12 @@ pushed W s M = upd W s (W s ++ M ∷ [])
 pub pushed-here : (W : Writes) (s : ℕ) (M : Made) → pushed W s M s ≡ W s ++ M ∷ []
 pushed-here W s M = upd-same W s (W s ++ M ∷ [])
 
+pub pushed-last : (W : Writes) (s : ℕ) (M : Made) → nth (pushed W s M) s (length (W s)) ≡ M
+pushed-last W s M = ap (λ l. getD l (length (W s)) no-made) (pushed-here W s M) ∙ getD-push (W s) M no-made (length (W s)) refl
+
+pub pushed-among : (W : Writes) (s : ℕ) (M : Made) → length (W s) < length (pushed W s M s)
+pushed-among W s M = rw (pushed-here W s M) (let l = length-push (W s) M in omega arith)
+
 pub pushed-longer : (W : Writes) (s : ℕ) (M : Made) → Longer W (pushed W s M)
 pushed-longer W s M = record {
     more = λ j. elim (cases-eq j s) [ inl e ↦ rw (e, pushed-here W s M) (let l = length-push (W s) M in omega arith) | inr ne ↦ rw (upd-other W s j (W s ++ M ∷ []) ne) (omega arith) ]

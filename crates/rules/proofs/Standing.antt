@@ -24,14 +24,19 @@ use Rattle.rules.specs.Runs.{Move}
 use Rattle.rules.specs.Events as told
 use Rattle.rules.specs.Events.{Event, event, events}
 use Rattle.rules.specs.Law as rule
-use Rattle.rules.proofs.Lists.{each-push}
+use lib.ListN.{length}
+use Rattle.std.proofs.shelf.Lists.{getD-push, length-push}
+use Rattle.rules.proofs.Lists.{each-push, Image, has-image, image-has}
+use Rattle.rules.proofs.Past.{Made, no-made, Writes, nth, Longer, pushed, pushed-last, pushed-among, pushed-longer, past-brought}
+use Rattle.rules.proofs.Notices.{Traced, made-write, made-by, step-traced, fresh-traced}
+use Rattle.message.specs.Tags.{rank}
 use Rattle.rules.proofs.Unranked.{tag-at, message-at}
 use Rattle.rules.proofs.Ranked.{Code, layout-of, Entry, Server, State, enters, kept, fresh, slots}
 use Rattle.rules.proofs.RankedSteps as Steps
 use Rattle.rules.proofs.RankedSteps.{Answer, Refused, Tag, Value, Number, Still, Nothing, Outcome, Count, Turn, write-refusal, write-tag}
 use Rattle.rules.proofs.RankedLaw as law
 use Rattle.rules.proofs.RankedLaw.{accepted-by, applies, best, Lawful, Waits}
-use Rattle.rules.proofs.View.{entry-at, state-at, answer-at, turn-at, fresh-at, has-entry-at, holds-at}
+use Rattle.rules.proofs.View.{entry-at, state-at, answer-at, turn-at, fresh-at, has-entry-at, holds-at, rank-at}
 use Rattle.rules.proofs.Told.{step-same, allowed, Tells, latest-same, given-same, tells-push}
 use Rattle.rules.proofs.Deliver.{deliver-six}
 use Rattle.rules.proofs.Cases.{write-cases}
@@ -102,6 +107,91 @@ module _ (g : Code) (R : Lawful g) (L : List Entry) (A : ℕ → List ℕ) (S : 
   step-differ d (Encode s x) f = subst (λ l. Differ (map entry-at l)) (sym (append-nil L)) d
   step-differ d (Sweep s x) f = subst (λ l. Differ (map entry-at l)) (sym (append-nil L)) d
 
+-- ---- the writes in order
+
+-- the write that j made with the tag t, after the events, and what j had applied before it
+pub record Made-at (g : Code) (W : Writes) (before : List Event) (j : ℕ) (t : declared.Tag) : Type 0 where
+  pub is-server : j < g .n
+  pub place : ℕ
+  pub among : place < length (W j)
+  pub tag : tag-at (nth W j place .tag) ≡ t
+  pub past : map tag-at (nth W j place .past) ≡ told.applied j before
+
+made-longer : (g : Code) (W X : Writes) (before : List Event) (j : ℕ) (t : declared.Tag) → Longer W X → Made-at g W before j t → Made-at g X before j t
+made-longer g W X before j t l h = record {
+    is-server = h .is-server; place = h .place
+  ; among = let m = l .more j in let q = h .among in omega arith
+  ; tag = ap (λ (z : Made). tag-at (z .tag)) (l .same j (h .place) (h .among)) ∙ h .tag
+  ; past = ap (λ (z : Made). map tag-at (z .past)) (l .same j (h .place) (h .among)) ∙ h .past }
+
+-- each accepted write of the events is among the writes
+abbrev pub All-made : Code → Writes → List Event → Event → Type 0
+All-made g W before e = (j x : ℕ) (v : List ℕ) (t : declared.Tag) → e .call ≡ Write j x v → e .answer ≡ turns.Tagged t → Made-at g W before j t
+
+pub record Was-tag (a : Answer) (t : declared.Tag) : Type 0 where
+  pub ranked : ℕ
+  pub is : a ≡ Tag ranked
+  pub tag : tag-at ranked ≡ t
+
+pub tag-was : (a : Answer) (t : declared.Tag) → answer-at a ≡ turns.Tagged t → Was-tag a t
+tag-was (Refused r) t e = absurd (let z : _≡_ {A = ℕ} 0 1 = cc in omega arith)
+tag-was (Tag u) t e = record { ranked = u; is = refl; tag = cc }
+tag-was (Value u r w) t e = absurd (let z : _≡_ {A = ℕ} 0 1 = cc in omega arith)
+tag-was (Number p) t e = absurd (let z : _≡_ {A = ℕ} 0 1 = cc in omega arith)
+tag-was Still t e = absurd (let z : _≡_ {A = ℕ} 0 1 = cc in omega arith)
+tag-was Nothing t e = absurd (let z : _≡_ {A = ℕ} 0 1 = cc in omega arith)
+tag-was (Outcome p) t e = absurd (let z : _≡_ {A = ℕ} 0 1 = cc in omega arith)
+tag-was (Count c) t e = absurd (let z : _≡_ {A = ℕ} 0 1 = cc in omega arith)
+
+module _ (g : Code) (R : Lawful g) (es : List Event) (L : List Entry) (A : ℕ → List ℕ) (S : State) (tells : Tells es L A) (known : Known g R L A S) (W : Writes) (traced : Traced g W A S) where
+  abbrev Grows : Call → Answer → Type 0
+  Grows c a = Longer W (made-by g R L A S known W traced c a)
+
+  same-long : Longer W W
+  same-long = record { more = λ j. omega arith; same = λ j m lt. refl }
+
+  grows : (c : Call) (a : Answer) → Grows c a
+  grows (Write s x v) (Tag t) = pushed-longer W s _
+  grows (Write s x v) (Refused r) = same-long
+  grows (Write s x v) (Value u t w) = same-long
+  grows (Write s x v) (Number p) = same-long
+  grows (Write s x v) Still = same-long
+  grows (Write s x v) Nothing = same-long
+  grows (Write s x v) (Outcome o) = same-long
+  grows (Write s x v) (Count c) = same-long
+  grows (Ask s x l) a = same-long
+  grows (Collect s m l) a = same-long
+  grows (Deliver i j) a = same-long
+  grows (Apply s) a = same-long
+  grows (Encode s x) a = same-long
+  grows (Sweep s x) a = same-long
+
+  new-made : (j x : ℕ) (v : List ℕ) (f : Found) (r : ℕ) (t : declared.Tag) → tag-at r ≡ t → Steps.step g S (Write j x v) f .answer ≡ Tag r → Made-at g (made-by g R L A S known W traced (Write j x v) (Steps.step g S (Write j x v) f .answer)) es j t
+  new-made j x v f r t er = write-cases g S (λ z. z .answer ≡ Tag r → Made-at g (made-by g R L A S known W traced (Write j x v) (z .answer)) es j t)
+      (λ q e. absurd (let z : _≡_ {A = ℕ} 0 1 = cc in omega arith)) j x v (λ ok e.
+        let u : write-tag g (S .servers j) j ≡ r = cc in
+        let M = made-write g A S j (write-tag g (S .servers j) j) in
+        record {
+          is-server = checked-write g S j x v ok .0
+        ; place = length (W j)
+        ; among = pushed-among W j M
+        ; tag = ap (λ (z : Made). tag-at (z .tag)) (pushed-last W j M) ∙ ap tag-at u ∙ er
+        ; past = ap (λ (z : Made). map tag-at (z .past)) (pushed-last W j M) ∙ sym (tells .applied j) })
+
+  pub step-made : (m : Move) → ((before : List Event) (e : Event) (later : List Event) → es ≡ before ++ e ∷ later → All-made g W before e)
+      → event (layout-of g) (state-at S) m .answer ≡ answer-at (Steps.step g S (m .call) (m .found) .answer)
+      → (before : List Event) (e : Event) (later : List Event) → es ++ event (layout-of g) (state-at S) m ∷ [] ≡ before ++ e ∷ later
+      → All-made g (made-by g R L A S known W traced (m .call) (Steps.step g S (m .call) (m .found) .answer)) before e
+  step-made m old same = each-push (All-made g X) es (event (layout-of g) (state-at S) m)
+      (λ before e later q j x v t ec ea. made-longer g W X before j t (grows (m .call) (Steps.step g S (m .call) (m .found) .answer)) (old before e later q j x v t ec ea))
+      (λ j x v t ec ea.
+        let was = tag-was (Steps.step g S (m .call) (m .found) .answer) t (sym same ∙ ea) in
+        subst (λ c. Steps.step g S c (m .found) .answer ≡ Tag (was .ranked) → Made-at g (made-by g R L A S known W traced c (Steps.step g S c (m .found) .answer)) es j t) (sym ec)
+          (new-made j x v (m .found) (was .ranked) t (was .tag)) (was .is))
+    where
+      X : Writes
+      X = made-by g R L A S known W traced (m .call) (Steps.step g S (m .call) (m .found) .answer)
+
 -- ---- the joint invariant
 
 pub record Stand (g : Code) (R : Lawful g) (es : List Event) (seen : model.State) : Type 0 where
@@ -115,6 +205,9 @@ pub record Stand (g : Code) (R : Lawful g) (es : List Event) (seen : model.State
   pub differ : Differ (map entry-at log)
   pub usable : rule.Replies-usable (layout-of g) es
   pub at-once : rule.Read-at-once (layout-of g) es
+  pub writes : Writes
+  pub traced : Traced g writes done state
+  pub made : (before : List Event) (e : Event) (later : List Event) → es ≡ before ++ e ∷ later → All-made g writes before e
 
 module _ (g : Code) (R : Lawful g) (es : List Event) (L : List Entry) (A : ℕ → List ℕ) (S : State) (tells : Tells es L A) (known : Known g R L A S) (m : Move) (ok : runs.Allowed (layout-of g) (state-at S) (m .call) (m .found)) where
   answer-same : event (layout-of g) (state-at S) m .answer ≡ answer-at (Steps.step g S (m .call) (m .found) .answer)
@@ -135,8 +228,9 @@ module _ (g : Code) (R : Lawful g) (es : List Event) (L : List Entry) (A : ℕ �
        q .1 ∙ sym (ap (told.given (layout-of g) es x) (was .tag) ∙ given-same g es L A tells x (was .ranked)))
 
   pub step-stands : Waits g S → Differ (map entry-at L) → rule.Replies-usable (layout-of g) es → rule.Read-at-once (layout-of g) es
+      → (W : Writes) (traced : Traced g W A S) → ((before : List Event) (e : Event) (later : List Event) → es ≡ before ++ e ∷ later → All-made g W before e)
       → Stand g R (es ++ event (layout-of g) (state-at S) m ∷ []) (runs.after (layout-of g) (state-at S) m)
-  step-stands waits differ usable at-once = record {
+  step-stands waits differ usable at-once W traced made = record {
       log = L ++ accepted-by (m .call) (Steps.step g S (m .call) (m .found) .answer)
     ; done = also A (m .call) (Steps.step g S (m .call) (m .found) .answer)
     ; state = Steps.after g S m
@@ -147,12 +241,15 @@ module _ (g : Code) (R : Lawful g) (es : List Event) (L : List Entry) (A : ℕ �
     ; differ = step-differ g R L A S known differ (m .call) (m .found)
     ; usable = each-push (λ before e. (a b : ℕ) → e .call ≡ Deliver a b → e .answer ≡ turns.Outcome 6 → ⊥) es (event (layout-of g) (state-at S) m) usable six-never
     ; at-once = each-push (λ before e. (s x cells : ℕ) (v : List ℕ) (t : declared.Tag) (way : ℕ) → e .call ≡ Ask s x cells → e .answer ≡ turns.Valued v t way → (t ≡ told.latest s x before) × (v ≡ told.given (layout-of g) before x t))
-        es (event (layout-of g) (state-at S) m) at-once once }
+        es (event (layout-of g) (state-at S) m) at-once once
+    ; writes = made-by g R L A S known W traced (m .call) (Steps.step g S (m .call) (m .found) .answer)
+    ; traced = step-traced g R L A S known W traced (m .call) (m .found)
+    ; made = step-made g R es L A S tells known W traced m made answer-same }
 
 pub move-stands : (g : Code) (R : Lawful g) (es : List Event) (seen : model.State) → Stand g R es seen → (m : Move) → runs.Allowed (layout-of g) seen (m .call) (m .found)
     → Stand g R (es ++ event (layout-of g) seen m ∷ []) (runs.after (layout-of g) seen m)
 move-stands g R es seen h m = subst (λ (z : model.State). runs.Allowed (layout-of g) z (m .call) (m .found) → Stand g R (es ++ event (layout-of g) z m ∷ []) (runs.after (layout-of g) z m)) (sym (h .view))
-    (λ ok. step-stands g R es (h .log) (h .done) (h .state) (h .tells) (h .known) m ok (h .waits) (h .differ) (h .usable) (h .at-once))
+    (λ ok. step-stands g R es (h .log) (h .done) (h .state) (h .tells) (h .known) m ok (h .waits) (h .differ) (h .usable) (h .at-once) (h .writes) (h .traced) (h .made))
 
 -- the calls done so far, of a run that goes on
 pub run-stands : (g : Code) (R : Lawful g) (es : List Event) (seen : model.State) → Stand g R es seen → (done later : List Move) → runs.Allowed-run (layout-of g) seen (done ++ later)
@@ -174,7 +271,9 @@ new-stands g R = record {
   ; waits = λ s i sn lv. absurd (both-ways (ltb i slots && false) (and-right (ltb i slots) false refl) lv)
   ; differ = λ before w later e. absurd (never-split before w later e)
   ; usable = λ before e later q. absurd (never-split before e later q)
-  ; at-once = λ before e later q. absurd (never-split before e later q) }
+  ; at-once = λ before e later q. absurd (never-split before e later q)
+  ; writes = λ _. []; traced = fresh-traced g
+  ; made = λ before e later q. absurd (never-split before e later q) }
 
 -- ---- from the invariant to the law
 
@@ -190,3 +289,13 @@ module _ (g : Code) (R : Lawful g) (es : List Event) (seen : model.State) (h : S
 
   pub differ-from : rule.Tags-differ (layout-of g) es
   differ-from before w later e = h .differ before w later (sym (h .tells .writes) ∙ e)
+
+  pub past-from : rule.Past-applied (layout-of g) es
+  past-from before e later split j x v t ec ea s sn has u hu =
+      let made = h .made before e later split j x v t ec ea in
+      let M = nth (h .writes) j (made .place) in
+      let at = has-image tag-at (h .done s) t (subst (λ l. Has l t) (h .tells .applied s) has) in
+      let same : at .from ≡ M .tag = sym (rank-at (at .from)) ∙ ap rank (at .is ∙ sym (made .tag)) ∙ rank-at (M .tag) in
+      let was = has-image tag-at (M .past) u (subst (λ l. Has l u) (sym (made .past)) hu) in
+      let brought = past-brought (g .n) (h .writes) (h .done) (λ s j. h .state .servers s .clock j) (h .traced .counts) j (made .place) s (made .is-server) (made .among) sn (subst (Has (h .done s)) same (at .has)) (was .from) (was .has) in
+      subst (λ l. Has l u) (sym (h .tells .applied s)) (subst (Has (map tag-at (h .done s))) (was .is) (image-has tag-at (h .done s) (was .from) brought))
