@@ -103,7 +103,8 @@ module _ (g : Code) (R : Lawful g) (L : List Entry) (cells : Cells g R L) (S : S
             (Told g R L b (S .servers b) (S .servers a)) plain-told
             (λ _. ((λ y yk. rw (getD-map-counting (λ y. states g b (S .servers b) y (getD T y 0)) 0 (g .k) y y 0 yk (omega arith))
                       (states-of g R L cells b (S .servers b) y (getD T y 0) (src .servers b) (held-of g R L cells (S .servers b .history) y (getD T y 0) (src .servers b .history)))),
-                   reply-right g R L cells b (S .servers b) T bn (h .servers b bn .symbol) (src .servers b .history)))
+                   reply-right g R L cells b (S .servers b) T bn (h .servers b bn .symbol) (src .servers b .history),
+                   length-map-counting (λ y. states g b (S .servers b) y (getD T y 0)) 0 (g .k)))
 
     -- one symbol more in hand
     hand-right : (i : ℕ) (v : List ℕ) → live (S .servers b) i ≡ true → Mix g R L a (S .servers b .reads i .tags) v → Right g R L b (reading (S .servers b) (upd (S .servers b .reads) i (in-hand (S .servers b .reads i) a v)))
@@ -183,6 +184,27 @@ module _ (g : Code) (R : Lawful g) (L : List Entry) (cells : Cells g R L) (S : S
     unfolding oldest
     oldest-valued [] d all = h
     oldest-valued (m ∷ ms) d all = cond-both (fits g m) (got g S a b m d) (turn (Outcome 7) (take-done g S a b (S .servers b))) Kept (λ _. got-valued m d (all .0)) (λ _. take-plain (S .servers b) refl refl (λ i e. refl))
+
+    -- the value that answers an open read is the one under its tag
+    pub plain-right : (m : ℕ) (v : List ℕ) (ms : List Message) → S .lanes a b ≡ Plain m v ∷ ms → (l : ltb (open-slot g (S .servers b) m) slots ≡ true)
+        → (let r = S .servers b .reads (open-slot g (S .servers b) m) in v ≡ kept g L (r .object) (r .tags (r .object)))
+    plain-right m v ms e l =
+        let i = open-slot g (S .servers b) m in
+        let all : All (Told g R L a (S .servers a) (S .servers b)) (Plain m v ∷ ms) = rw e at (h .lanes a b an bn ne) in
+        all .0 i (slot-live m l) (open-found g (S .servers b) m l .1)
+
+    pub coded-right : (m : ℕ) (v st : List ℕ) (ms : List Message) (d : Found) → S .lanes a b ≡ Coded m v st ∷ ms → Allowed-message g S a b (Coded m v st) d → (l : ltb (open-slot g (S .servers b) m) slots ≡ true) → d .recovered ≡ true
+        → (let r = S .servers b .reads (open-slot g (S .servers b) m) in d .value ≡ kept g L (r .object) (r .tags (r .object)))
+    coded-right m v st ms d e ok l rec =
+        let p = S .servers b in
+        let i = open-slot g p m in
+        let r = p .reads i in
+        let all : All (Told g R L a (S .servers a) (S .servers b)) (Coded m v st ∷ ms) = rw e at (h .lanes a b an bn ne) in
+        let lv = slot-live m l in
+        let w = mended g p a r v st (g .k) in
+        let mend = mends g S f a b an bn ne m v st ms e l in
+        decoded-right g R L cells (in-hand r a w .hand) (in-hand r a w .symbols) (r .object) (d .value) (r .tags) (h .servers b bn .object i lv) (ok l mend .decoded rec)
+           (all-hands i w lv (mended-right g R L cells p a r v st an (src .servers b .history) mend (all .0 .1)))
 
     -- the value that answers an internal read is the one under its tag
     pub found-right : (m : Message) (ms : List Message) (d : Found) → S .lanes a b ≡ m ∷ ms → Allowed-message g S a b m d

@@ -108,7 +108,7 @@ module _ (g : Code) (S : State) (Φ : Turn → Type 0) (refused : (r : ℕ) → 
   pub read-cases : (s x l : ℕ) (f : Found)
       → (s < g .n → x < g .k → S .servers s .own x ≤ top-tag x (S .servers s .history) → Φ (turn (Value (kept g (S .servers s .history) x (top-tag x (S .servers s .history))) (top-tag x (S .servers s .history)) 1) S))
       → (s < g .n → x < g .k → top-tag x (S .servers s .history) ≤ S .servers s .own x → f .recovered ≡ true → Φ (turn (Value (f .value) (S .servers s .own x) 2) S))
-      → (s < g .n → x < g .k → top-tag x (S .servers s .history) < S .servers s .own x → f .recovered ≡ false → Φ (turn (Number (S .servers s .opened + 1)) (open-done g S s (free-slot g (S .servers s)) x)))
+      → (s < g .n → x < g .k → top-tag x (S .servers s .history) < S .servers s .own x → f .recovered ≡ false → open-refusal g S s ≡ 0 → Φ (turn (Number (S .servers s .opened + 1)) (open-done g S s (free-slot g (S .servers s)) x)))
       → Φ (read g S s x l f)
   unfolding read read-found open-read
   read-cases s x l f one two three =
@@ -126,18 +126,27 @@ module _ (g : Code) (S : State) (Φ : Turn → Type 0) (refused : (r : ℕ) → 
       cond-both (a && (not b || f .first-way)) first second Φ (λ e. one sn xk (leb-true (p .own x) t (and-parts a (not b || f .first-way) e .0)))
       (λ e. cond-both b other (unless (open-refusal g S s) S third) Φ
         (λ q. let w = and-parts (leb t (p .own x)) (f .recovered) q in two sn xk (leb-true t (p .own x) (w .0)) (w .1))
-        (λ q. unless-both Φ (open-refusal g S s) S third (refused _) (λ _.
+        (λ q. unless-both Φ (open-refusal g S s) S third (refused _) (λ free.
           let hi : t < p .own x = ⊎-elim (λ w. leb-false (p .own x) t w) (λ (w : (not b || f .first-way) ≡ false). absurd (both-ways b q (not-false b (or-parts (not b) (f .first-way) w .0)))) (and-cases a (not b || f .first-way) e) in
-          three sn xk hi (⊎-elim (λ (w : leb t (p .own x) ≡ false). absurd (let z = leb-false t (p .own x) w in omega arith)) (λ w. w) (and-cases (leb t (p .own x)) (f .recovered) q))))))
+          three sn xk hi (⊎-elim (λ (w : leb t (p .own x) ≡ false). absurd (let z = leb-false t (p .own x) w in omega arith)) (λ w. w) (and-cases (leb t (p .own x)) (f .recovered) q)) free))))
+
+  collect-server : (s m l : ℕ) → collect-refusal g S s m l ≡ 0 → s < g .n
+  unfolding collect-refusal
+  collect-server s m l e = ltb-true s (g .n) (checked (ltb s (g .n)) 7 _ (omega arith) e .0)
+
+  collect-slot : (s m l : ℕ) → collect-refusal g S s m l ≡ 0 → client-slot g (S .servers s) m < clients
+  unfolding collect-refusal
+  collect-slot s m l e = ltb-true (client-slot g (S .servers s) m) clients
+      (checked (ltb (client-slot g (S .servers s) m) clients) 10 0 (omega arith) (checked (eqb l (g .w)) 9 _ (omega arith) (checked (ltb s (g .n)) 7 _ (omega arith) e .1) .1) .0)
 
   pub collect-cases : (s m l : ℕ) → Φ (turn Still S)
-      → ((i : ℕ) → i ≡ client-slot g (S .servers s) m → Φ (turn (Value (S .servers s .reads i .value) (S .servers s .reads i .tag) (S .servers s .reads i .way)) (collect-done g S s i))) → Φ (collect g S s m l)
+      → ((i : ℕ) → i ≡ client-slot g (S .servers s) m → s < g .n → i < clients → is-open (S .servers s .reads i) ≡ false → Φ (turn (Value (S .servers s .reads i .value) (S .servers s .reads i .tag) (S .servers s .reads i .way)) (collect-done g S s i))) → Φ (collect g S s m l)
   unfolding collect collect-at
   collect-cases s m l one two =
       let i = client-slot g (S .servers s) m in
       let r = S .servers s .reads i in
       let out = turn (Value (r .value) (r .tag) (r .way)) (collect-done g S s i) in
-      unless-both Φ (collect-refusal g S s m l) S (cond (is-open r) (turn Still S) out) (refused _) (λ _. cond-both (is-open r) (turn Still S) out Φ (λ _. one) (λ _. two i refl))
+      unless-both Φ (collect-refusal g S s m l) S (cond (is-open r) (turn Still S) out) (refused _) (λ ok. cond-both (is-open r) (turn Still S) out Φ (λ _. one) (λ shut. two i refl (collect-server s m l ok) (collect-slot s m l ok) shut))
 
   pub sweep-cases : (s x : ℕ) → (s < g .n → x < g .k → Φ (turn (Count (length (S .servers s .history) - length (swept g (S .servers s) x))) (sweep-done g S s x))) → Φ (sweep g S s x)
   unfolding sweep
@@ -146,7 +155,8 @@ module _ (g : Code) (S : State) (Φ : Turn → Type 0) (refused : (r : ℕ) → 
   pub encode-cases : (s x : ℕ) (f : Found) → ((o : ℕ) → Φ (turn (Outcome o) S))
       → ((t : ℕ) (v : List ℕ) → s < g .n → x < g .k → S .servers s .own x < t → enters (S .servers s .history) x t ≡ true → Φ (turn (Outcome 1) (move-done g S s x t v)))
       → (s < g .n → x < g .k → f .recovered ≡ true → Φ (turn (Outcome 3) (enter-done g S s (record { object = x; tag = S .servers s .own x; value = f .value }))))
-      → (s < g .n → x < g .k → holds (S .servers s .history) x (S .servers s .own x) ≡ false → f .recovered ≡ false → Φ (turn (Outcome 4) (open-done g S s (clients + x) x)))
+      → (s < g .n → x < g .k → holds (S .servers s .history) x (S .servers s .own x) ≡ false → f .recovered ≡ false
+          → is-open (S .servers s .reads (clients + x)) ≡ false → ltb (S .servers s .opened) most-reads ≡ true → Φ (turn (Outcome 4) (open-done g S s (clients + x) x)))
       → Φ (encode g S s x f)
   unfolding encode encode-contained encode-other
   encode-cases s x f stay moves enters-own asks =
@@ -174,9 +184,9 @@ module _ (g : Code) (S : State) (Φ : Turn → Type 0) (refused : (r : ℕ) → 
           cond-both (holds (p .history) x (p .own x)) moving third Φ
             (λ _. unless-both Φ (check (room g S s) 17 0) S move (refused _) (λ _. moves t sym′ sn xk (leb-false t (p .own x) hi) (found s x (λ _. true) hi)))
           (λ q. cond-both (is-open (p .reads (clients + x))) (turn (Outcome 2) S) fourth Φ (λ _. stay 2)
-          (λ _. cond-both (f .recovered) entering asking Φ
+          (λ shut. cond-both (f .recovered) entering asking Φ
             (λ w. unless-both Φ (check (history-room g S s) 15 0) S enter (refused _) (λ _. enters-own sn xk w))
-            (λ w. unless-both Φ (check (ltb (p .opened) most-reads) 14 (check (room g S s) 17 0)) S ask (refused _) (λ _. asks sn xk q w))))))
+            (λ w. unless-both Φ (check (ltb (p .opened) most-reads) 14 (check (room g S s) 17 0)) S ask (refused _) (λ ok. asks sn xk q w shut (checked (ltb (p .opened) most-reads) 14 _ (omega arith) ok .0)))))))
         (λ i. cond-both (leb u (p .own x)) (turn (Outcome 0) S) (unless (check (room g S s) 17 0) S other-move) Φ (λ _. stay 0) (λ hi.
           unless-both Φ (check (room g S s) 17 0) S other-move (refused _) (λ _. moves u (p .symbol) sn xk (leb-false u (p .own x) hi) (found s x (within g p x) hi)))))
     where

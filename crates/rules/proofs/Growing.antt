@@ -103,11 +103,11 @@ module _ (g : Code) (S : State) where
 
   pub rises : (c : Call) (f : Found) → Rises (step g S c f)
   rises (Write s x v) f = write-cases g S Rises (λ r. same-top (Refused r)) s x v (λ _. write-top s x v)
-  rises (Ask s x l) f = read-cases g S Rises (λ r. same-top (Refused r)) s x l f (λ _ _ _. same-top Still) (λ _ _ _ _. same-top Still) (λ _ _ _ _. open-top Still s (free-slot g (S .servers s)) x)
-  rises (Collect s m l) f = collect-cases g S Rises (λ r. same-top (Refused r)) s m l (same-top Still) (λ i _. collect-top Still s i)
+  rises (Ask s x l) f = read-cases g S Rises (λ r. same-top (Refused r)) s x l f (λ _ _ _. same-top Still) (λ _ _ _ _. same-top Still) (λ _ _ _ _ _. open-top Still s (free-slot g (S .servers s)) x)
+  rises (Collect s m l) f = collect-cases g S Rises (λ r. same-top (Refused r)) s m l (same-top Still) (λ i _ _ _ _. collect-top Still s i)
   rises (Deliver a b) f = deliver-cases g S Rises (λ r. same-top (Refused r)) a b f (λ o r e _. take-top o a b r (e .top)) (λ m v st ms _ _ _ _ _ _ e. take-top 3 a b _ (e .top)) (λ o m x T. question-top o a b (reply g b (S .servers b) m x T))
   rises (Apply s) f = apply-cases g S Rises (λ r. same-top (Refused r)) s (same-top Nothing) (λ b _. apply-top s (b .write) (b .others))
-  rises (Encode s x) f = encode-cases g S Rises (λ r. same-top (Refused r)) s x f (λ o. same-top (Outcome o)) (λ t v _ _ _ _. move-top (Outcome 1) s x t v) (λ _ _ _. enter-top (Outcome 3) s (record { object = x; tag = S .servers s .own x; value = f .value })) (λ _ _ _ _. open-top (Outcome 4) s (clients + x) x)
+  rises (Encode s x) f = encode-cases g S Rises (λ r. same-top (Refused r)) s x f (λ o. same-top (Outcome o)) (λ t v _ _ _ _. move-top (Outcome 1) s x t v) (λ _ _ _. enter-top (Outcome 3) s (record { object = x; tag = S .servers s .own x; value = f .value })) (λ _ _ _ _ _ _. open-top (Outcome 4) s (clients + x) x)
   rises (Sweep s x) f = sweep-cases g S Rises (λ r. same-top (Refused r)) s x (λ _ _. sweep-top Still s x)
 
 -- ---- a longer log
@@ -191,7 +191,7 @@ module _ (g : Code) (R : Lawful g) (L : List Entry) (e : Entry) (pos : 0 < e .ta
   told-grow S a b src (Tagged x t) h = tt
   told-grow S a b src (Question m x T) h = h
   told-grow S a b src (Plain m v) h = λ i lv nu. h i lv nu ∙ sym (kept-grow g L e (S .servers b .reads i .object) (S .servers b .reads i .tags (S .servers b .reads i .object)) (src .servers b .reads i (S .servers b .reads i .object)))
-  told-grow S a b src (Coded m v st) h = ((λ y yk. tag-grow y (getD st y 0) (h .0 y yk)), mix-grow a (λ y. getD st y 0) v (h .0) (h .1))
+  told-grow S a b src (Coded m v st) h = ((λ y yk. tag-grow y (getD st y 0) (h .0 y yk)), mix-grow a (λ y. getD st y 0) v (h .0) (h .1), h .2)
 
   pub valued-grow : (S : State) → Sourced g (Of-entry g R L) (Of-tag g R L) S → Valued g R L S → Valued g R (L ++ e ∷ []) S
   valued-grow S src h = record {

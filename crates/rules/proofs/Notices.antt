@@ -144,13 +144,13 @@ module _ (g : Code) (W : Writes) (S : State) (h : Notices (g .n) W S) where
             (λ e. all-push (Noticed (g .n) W i) (taken (S .lanes) a b i j) z (taken-quiet a b i j) (rw (eqb-true i b (and-parts (eqb i b) (eqb j a) e .0)) new)) (λ _. taken-quiet a b i j) } }
 
   read-quiet : (s x l : ℕ) (f : Found) → Kept (Steps.read g S s x l f)
-  read-quiet s x l f = read-cases g S Kept (λ r. same-quiet (Refused r)) s x l f (λ _ _ _. same-quiet _) (λ _ _ _ _. same-quiet _) (λ _ _ _ _. open-quiet _ s (free-slot g (S .servers s)) x)
+  read-quiet s x l f = read-cases g S Kept (λ r. same-quiet (Refused r)) s x l f (λ _ _ _. same-quiet _) (λ _ _ _ _. same-quiet _) (λ _ _ _ _ _. open-quiet _ s (free-slot g (S .servers s)) x)
 
   collects-quiet : (s m l : ℕ) → Kept (Steps.collect g S s m l)
-  collects-quiet s m l = collect-cases g S Kept (λ r. same-quiet (Refused r)) s m l (same-quiet Still) (λ i _. collect-quiet _ s i)
+  collects-quiet s m l = collect-cases g S Kept (λ r. same-quiet (Refused r)) s m l (same-quiet Still) (λ i _ _ _ _. collect-quiet _ s i)
 
   encode-quiet : (s x : ℕ) (f : Found) → Kept (Steps.encode g S s x f)
-  encode-quiet s x f = encode-cases g S Kept (λ r. same-quiet (Refused r)) s x f (λ o. same-quiet (Outcome o)) (λ t v _ _ _ _. move-quiet _ s x t v) (λ _ _ _. enter-quiet _ s _) (λ _ _ _ _. open-quiet _ s (clients + x) x)
+  encode-quiet s x f = encode-cases g S Kept (λ r. same-quiet (Refused r)) s x f (λ o. same-quiet (Outcome o)) (λ t v _ _ _ _. move-quiet _ s x t v) (λ _ _ _. enter-quiet _ s _) (λ _ _ _ _ _ _. open-quiet _ s (clients + x) x)
 
   sweeps-quiet : (s x : ℕ) → Kept (Steps.sweep g S s x)
   sweeps-quiet s x = sweep-cases g S Kept (λ r. same-quiet (Refused r)) s x (λ _ _. sweep-quiet _ s x)

@@ -125,14 +125,14 @@ module _ (g : Code) where
         | inr ne ↦ let u = upd-other (p .reads) i j nr ne in rw u (h .asked s j sn jc (rw u at lv)) ])
 
     pub read-peaks : (s x l : ℕ) (d : Found) → Kept (read g S s x l d)
-    read-peaks s x l d = read-cases g S Kept (λ r. h) s x l d (λ _ _ _. h) (λ _ _ _ _. h) (λ sn xk lt _. open-peaks s (free-slot g (S .servers s)) x (λ _. (sn, lt)))
+    read-peaks s x l d = read-cases g S Kept (λ r. h) s x l d (λ _ _ _. h) (λ _ _ _ _. h) (λ sn xk lt _ _. open-peaks s (free-slot g (S .servers s)) x (λ _. (sn, lt)))
 
     collect-done-peaks : (s i : ℕ) → Peaks L A (collect-done g S s i)
     unfolding collect-done reading
     collect-done-peaks s i = put-peaks s (reading (S .servers s) (upd (S .servers s .reads) i no-read)) _ (λ y. refl) (reads-same s (reading (S .servers s) (upd (S .servers s .reads) i no-read)) (closed-same (S .servers s .reads) i no-read refl))
 
     pub collect-peaks : (s m l : ℕ) → Kept (collect g S s m l)
-    collect-peaks s m l = collect-cases g S Kept (λ r. h) s m l h (λ i _. collect-done-peaks s i)
+    collect-peaks s m l = collect-cases g S Kept (λ r. h) s m l h (λ i _ _ _ _. collect-done-peaks s i)
 
     move-peaks : (s x t : ℕ) (v : List ℕ) → S .servers s .own x < t → enters (S .servers s .history) x t ≡ true → Peaks L A (move-done g S s x t v)
     unfolding move-done moved
@@ -153,7 +153,7 @@ module _ (g : Code) where
 
     pub encode-peaks : (s x : ℕ) (d : Found) → Kept (encode g S s x d)
     encode-peaks s x d = encode-cases g S Kept (λ r. h) s x d (λ o. h) (λ t v _ _ lt e. move-peaks s x t v lt e) (λ _ _ _. enter-peaks s x (d .value))
-        (λ _ _ _ _. open-peaks s (clients + x) x (λ lt. absurd (omega arith)))
+        (λ _ _ _ _ _ _. open-peaks s (clients + x) x (λ lt. absurd (omega arith)))
 
     idle-low : (s x u : ℕ) → s < g .n → Idle (g .n) (g .k) (has g) (core S) s x u → u ≤ S .servers s .own x
     idle-low s x u sn (below lt fr) = let w = lt s sn in let z = f .self s x in omega arith
@@ -212,7 +212,7 @@ module _ (g : Code) where
           let ev : d .value ≡ v = cc in
           let b = h .peaks s sn x in
           (omega arith, sym ev ∙ decoded-right g R L cells (only g s) (λ _. p .symbol) x (d .value) (p .own) xk (ok sn xk .decoded rec) (λ j jn q. rw (eqb-true j s q) (val .servers s sn .symbol)) ∙ ap (kept g L x) et))
-        (λ sn xk lt rec e. absurd (let q : _≡_ {A = ℕ} 0 1 = cc in omega arith))
+        (λ sn xk lt rec _ e. absurd (let q : _≡_ {A = ℕ} 0 1 = cc in omega arith))
       where
         held-top : (p : Server) (x : ℕ) → holds (p .history) x (top-tag x (p .history)) ≡ true
         held-top p x = ⊎-elim (λ q. or-left (eqb (top-tag x (p .history)) 0) (enters (p .history) x (top-tag x (p .history))) (eq-eqb (top-tag x (p .history)) 0 q))

@@ -83,7 +83,7 @@ module _ (g : Code) (R : Lawful g) (L : List Entry) where
   Told a p r (Tagged x t) = Unit {0}
   Told a p r (Question m x T) = (x < g .k) × ((i : ℕ) → live p i ≡ true → p .reads i .number ≡ m → (p .reads i .object ≡ x) × ((y : ℕ) → y < g .k → p .reads i .tags y ≡ getD T y 0))
   Told a p r (Plain m v) = (i : ℕ) → live r i ≡ true → r .reads i .number ≡ m → v ≡ kept g L (r .reads i .object) (r .reads i .tags (r .reads i .object))
-  Told a p r (Coded m v st) = ((y : ℕ) → y < g .k → Of-tag y (getD st y 0)) × Mix g R L a (λ y. getD st y 0) v
+  Told a p r (Coded m v st) = ((y : ℕ) → y < g .k → Of-tag y (getD st y 0)) × Mix g R L a (λ y. getD st y 0) v × (length st ≡ g .k)
 
   pub record Valued (S : State) : Type 0 where
     pub servers : (s : ℕ) → s < g .n → Right s (S .servers s)

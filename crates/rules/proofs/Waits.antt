@@ -111,8 +111,8 @@ module _ (g : Code) (S : State) (h : Waits g S) where
   pub step-waits : (c : Call) (f : Found) → Allowed g S c f → Waits g (step g S c f .next)
   step-waits (Write s x v) f ok = write-cases g S Kept (λ r. h) s x v (λ _. write-done-waits s x v)
   step-waits (Ask s x l) f ok = read-cases g S Kept (λ r. h) s x l f (λ _ _ _. h) (λ _ _ _ _. h)
-      (λ sn xk _ no-rec. open-waits s (free-slot g (S .servers s)) x (not-recovered g (only g s) (λ _. S .servers s .symbol) x f (ok sn xk) no-rec))
-  step-waits (Collect s m l) f ok = collect-cases g S Kept (λ r. h) s m l h (λ i _. collect-done-waits s i)
+      (λ sn xk _ no-rec _. open-waits s (free-slot g (S .servers s)) x (not-recovered g (only g s) (λ _. S .servers s .symbol) x f (ok sn xk) no-rec))
+  step-waits (Collect s m l) f ok = collect-cases g S Kept (λ r. h) s m l h (λ i _ _ _ _. collect-done-waits s i)
   step-waits (Deliver a b) f ok = deliver-cases g S Kept (λ r. h) a b f (λ o r _ er. take-waits a b r er)
       (λ m v st ms an bn e lt no-rec mend _.
         let p = S .servers b in
@@ -122,7 +122,7 @@ module _ (g : Code) (S : State) (h : Waits g S) where
       (λ o m x T. question-waits a b (reply g b (S .servers b) m x T))
   step-waits (Apply s) f ok = apply-cases g S Kept (λ r. h) s h (λ b _. apply-done-waits s (b .write) (b .others))
   step-waits (Encode s x) f ok = encode-cases g S Kept (λ r. h) s x f (λ o. h) (λ t v _ _ _ _. move-waits s x t v) (λ _ _ _. enter-waits s (record { object = x; tag = S .servers s .own x; value = f .value }))
-      (λ sn xk _ no-rec. open-waits s (clients + x) x (not-recovered g (only g s) (λ _. S .servers s .symbol) x f (ok sn xk) no-rec))
+      (λ sn xk _ no-rec _ _. open-waits s (clients + x) x (not-recovered g (only g s) (λ _. S .servers s .symbol) x f (ok sn xk) no-rec))
   step-waits (Sweep s x) f ok = sweep-cases g S Kept (λ r. h) s x (λ _ _. sweep-done-waits s x)
 
 pub run-waits : (g : Code) (S : State) (ms : List Steps.Move) → Waits g S → Allowed-run g S ms → Waits g (run g S ms)
