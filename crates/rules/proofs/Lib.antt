@@ -34,6 +34,7 @@ pub mod Latest
 pub mod Waits
 pub mod Past
 pub mod Notices
+pub mod Following
 pub mod View
 pub mod Same
 pub mod SameLater

@@ -18,6 +18,10 @@ use Rattle.rules.specs.Turns.{Call, Write, Read, Collect, Deliver, Answer, Tag
 use Rattle.rules.specs.Runs.{Move, run, Allowed-run}
 use Rattle.rules.specs.Events.{Event, events, accepted, applied, latest, given, Followed, just-opened, reads-of}
 
+-- a server with the repliers
+abbrev pub with-own : ℕ → (ℕ → Bool) → ℕ → Bool
+with-own s repliers j = eqb j s || repliers j
+
 module _ (l : Layout) where
   -- P holds of each event and of those before it
   abbrev pub Each-event : List Event → (List Event → Event → Type 0) → Type 0
@@ -31,10 +35,6 @@ module _ (l : Layout) where
   -- (b) No deliver answered 6.
   abbrev pub Replies-usable : List Event → Type 0
   Replies-usable es = Each-event es (λ before e. (a b : ℕ) → e .call ≡ Deliver a b → e .answer ≡ Outcome 6 → ⊥)
-
-  -- a server with the repliers
-  abbrev pub with-own : ℕ → (ℕ → Bool) → ℕ → Bool
-  with-own s repliers j = eqb j s || repliers j
 
   -- Of no open read do its server and its repliers together recover its object.
   abbrev pub Open-reads-wait : List Event → Type 0
