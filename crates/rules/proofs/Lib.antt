@@ -39,4 +39,5 @@ pub mod View
 pub mod Same
 pub mod SameLater
 pub mod Told
+pub mod Overtaking
 pub mod Standing
