@@ -40,4 +40,5 @@ pub mod Same
 pub mod SameLater
 pub mod Told
 pub mod Overtaking
+pub mod Replying
 pub mod Standing
