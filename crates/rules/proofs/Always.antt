@@ -53,13 +53,13 @@ module _ (g : Code) (R : Lawful g) where
   none : (x : ℕ) → Fit x 0
   none x = and-from true (ltb 0 (g .n) && true) refl (and-from (ltb 0 (g .n)) true (lt-ltb 0 (g .n) some-server) refl)
 
-  tag-ok : (t s : ℕ) → 0 < t → t ≤ most-height → s < g .n → tag-fits g (tag t s) ≡ true
+  pub tag-ok : (t s : ℕ) → 0 < t → t ≤ most-height → s < g .n → tag-fits g (tag t s) ≡ true
   tag-ok t s pos le sn =
       let hi : (t * 6 + s) / 6 ≡ t = omega arith in
       let lo : (t * 6 + s) % 6 ≡ s = omega arith in
       rw (hi, lo) (and-from (leb t most-height) _ (le-leb t most-height le) (and-from (ltb s (g .n)) _ (lt-ltb s (g .n) sn) (or-left (ltb 0 t) (eqb s 0) (lt-ltb 0 t pos))))
 
-  write-ok : (S : State) (s x : ℕ) (v : List ℕ) → write-refusal g S s x v ≡ 0 → (s < g .n) × (S .servers s .top < most-height)
+  pub write-ok : (S : State) (s x : ℕ) (v : List ℕ) → write-refusal g S s x v ≡ 0 → (s < g .n) × (S .servers s .top < most-height)
   unfolding write-refusal
   write-ok S s x v e =
       let a = checked (ltb s (g .n)) 7 _ (omega arith) e in

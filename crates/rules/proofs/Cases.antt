@@ -152,7 +152,7 @@ module _ (g : Code) (S : State) (Φ : Turn → Type 0) (refused : (r : ℕ) → 
   unfolding sweep
   sweep-cases s x go = unless-both Φ (object-refusal g s x) S (turn (Count (length (S .servers s .history) - length (swept g (S .servers s) x))) (sweep-done g S s x)) (refused _) (λ ok. go (object-server g s x ok) (object-object g s x ok))
 
-  pub encode-cases : (s x : ℕ) (f : Found) → ((o : ℕ) → Φ (turn (Outcome o) S))
+  pub encode-cases : (s x : ℕ) (f : Found) → ((o : ℕ) → (o ≡ 4 → ⊥) → Φ (turn (Outcome o) S))
       → ((t : ℕ) (v : List ℕ) → s < g .n → x < g .k → S .servers s .own x < t → enters (S .servers s .history) x t ≡ true → Φ (turn (Outcome 1) (move-done g S s x t v)))
       → (s < g .n → x < g .k → f .recovered ≡ true → Φ (turn (Outcome 3) (enter-done g S s (record { object = x; tag = S .servers s .own x; value = f .value }))))
       → (s < g .n → x < g .k → holds (S .servers s .history) x (S .servers s .own x) ≡ false → f .recovered ≡ false
@@ -180,14 +180,14 @@ module _ (g : Code) (S : State) (Φ : Turn → Type 0) (refused : (r : ℕ) → 
       let sn = object-server g s x ok in
       let xk = object-object g s x ok in
       cond-both (has g s x) contained other Φ
-        (λ i. cond-both (leb t (p .own x)) (turn (Outcome 0) S) second Φ (λ _. stay 0) (λ hi.
+        (λ i. cond-both (leb t (p .own x)) (turn (Outcome 0) S) second Φ (λ _. stay 0 (λ e. omega arith)) (λ hi.
           cond-both (holds (p .history) x (p .own x)) moving third Φ
             (λ _. unless-both Φ (check (room g S s) 17 0) S move (refused _) (λ _. moves t sym′ sn xk (leb-false t (p .own x) hi) (found s x (λ _. true) hi)))
-          (λ q. cond-both (is-open (p .reads (clients + x))) (turn (Outcome 2) S) fourth Φ (λ _. stay 2)
+          (λ q. cond-both (is-open (p .reads (clients + x))) (turn (Outcome 2) S) fourth Φ (λ _. stay 2 (λ e. omega arith))
           (λ shut. cond-both (f .recovered) entering asking Φ
             (λ w. unless-both Φ (check (history-room g S s) 15 0) S enter (refused _) (λ _. enters-own sn xk w))
             (λ w. unless-both Φ (check (ltb (p .opened) most-reads) 14 (check (room g S s) 17 0)) S ask (refused _) (λ ok. asks sn xk q w shut (checked (ltb (p .opened) most-reads) 14 _ (omega arith) ok .0)))))))
-        (λ i. cond-both (leb u (p .own x)) (turn (Outcome 0) S) (unless (check (room g S s) 17 0) S other-move) Φ (λ _. stay 0) (λ hi.
+        (λ i. cond-both (leb u (p .own x)) (turn (Outcome 0) S) (unless (check (room g S s) 17 0) S other-move) Φ (λ _. stay 0 (λ e. omega arith)) (λ hi.
           unless-both Φ (check (room g S s) 17 0) S other-move (refused _) (λ _. moves u (p .symbol) sn xk (leb-false u (p .own x) hi) (found s x (within g p x) hi)))))
     where
       found : (s x : ℕ) (d : ℕ → Bool) → leb (highest d x (S .servers s .history)) (S .servers s .own x) ≡ false → enters (S .servers s .history) x (highest d x (S .servers s .history)) ≡ true

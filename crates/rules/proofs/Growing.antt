@@ -107,7 +107,7 @@ module _ (g : Code) (S : State) where
   rises (Collect s m l) f = collect-cases g S Rises (λ r. same-top (Refused r)) s m l (same-top Still) (λ i _ _ _ _. collect-top Still s i)
   rises (Deliver a b) f = deliver-cases g S Rises (λ r. same-top (Refused r)) a b f (λ o r e _. take-top o a b r (e .top)) (λ m v st ms _ _ _ _ _ _ e. take-top 3 a b _ (e .top)) (λ o m x T. question-top o a b (reply g b (S .servers b) m x T))
   rises (Apply s) f = apply-cases g S Rises (λ r. same-top (Refused r)) s (same-top Nothing) (λ b _. apply-top s (b .write) (b .others))
-  rises (Encode s x) f = encode-cases g S Rises (λ r. same-top (Refused r)) s x f (λ o. same-top (Outcome o)) (λ t v _ _ _ _. move-top (Outcome 1) s x t v) (λ _ _ _. enter-top (Outcome 3) s (record { object = x; tag = S .servers s .own x; value = f .value })) (λ _ _ _ _ _ _. open-top (Outcome 4) s (clients + x) x)
+  rises (Encode s x) f = encode-cases g S Rises (λ r. same-top (Refused r)) s x f (λ o _. same-top (Outcome o)) (λ t v _ _ _ _. move-top (Outcome 1) s x t v) (λ _ _ _. enter-top (Outcome 3) s (record { object = x; tag = S .servers s .own x; value = f .value })) (λ _ _ _ _ _ _. open-top (Outcome 4) s (clients + x) x)
   rises (Sweep s x) f = sweep-cases g S Rises (λ r. same-top (Refused r)) s x (λ _ _. sweep-top Still s x)
 
 -- ---- a longer log

@@ -34,6 +34,7 @@ pub mod Latest
 pub mod Waits
 pub mod Past
 pub mod Notices
+pub mod Heights
 pub mod Following
 pub mod View
 pub mod Same

@@ -150,7 +150,7 @@ module _ (g : Code) (W : Writes) (S : State) (h : Notices (g .n) W S) where
   collects-quiet s m l = collect-cases g S Kept (λ r. same-quiet (Refused r)) s m l (same-quiet Still) (λ i _ _ _ _. collect-quiet _ s i)
 
   encode-quiet : (s x : ℕ) (f : Found) → Kept (Steps.encode g S s x f)
-  encode-quiet s x f = encode-cases g S Kept (λ r. same-quiet (Refused r)) s x f (λ o. same-quiet (Outcome o)) (λ t v _ _ _ _. move-quiet _ s x t v) (λ _ _ _. enter-quiet _ s _) (λ _ _ _ _ _ _. open-quiet _ s (clients + x) x)
+  encode-quiet s x f = encode-cases g S Kept (λ r. same-quiet (Refused r)) s x f (λ o _. same-quiet (Outcome o)) (λ t v _ _ _ _. move-quiet _ s x t v) (λ _ _ _. enter-quiet _ s _) (λ _ _ _ _ _ _. open-quiet _ s (clients + x) x)
 
   sweeps-quiet : (s x : ℕ) → Kept (Steps.sweep g S s x)
   sweeps-quiet s x = sweep-cases g S Kept (λ r. same-quiet (Refused r)) s x (λ _ _. sweep-quiet _ s x)

@@ -49,7 +49,7 @@ module _ (g : Code) (es : List Event) (e : Event) (L M : List Entry) (A B : ℕ 
          (s : ℕ) (F : List Followed) (rs : ℕ → Read) (o : ℕ) (h : Follows s F rs o) (x t : ℕ) (v : List ℕ) (all : Bool)
          (is-write : (n : ℕ) (r : Followed) → follow-call (layout-of g) s n es e (e .call) r ≡ follow-write (layout-of g) s es e r)
          (applied-is : told.applied-by s (e .call) (told.tag-told (e .answer)) ≡ tag-at t ∷ [])
-         (only : (y : ℕ) → enters M y t ≡ true → y ≡ x) (is-in : enters M x t ≡ true)
+         (only : (y : ℕ) → enters M y t ≡ true → y ≡ x) (is-in : ltb (best L x (A s)) t ≡ true → enters M x t ≡ true)
          (test : (i : ℕ) → i < clients → live rs i ≡ true → rs i .object ≡ x → (all || ltb (rs i .tags x) t) ≡ ltb (best L x (A s)) t)
          (result : ltb (best L x (A s)) t ≡ true → best M x (B s) ≡ t) (value : kept g M x t ≡ v) where
   G : List Followed
@@ -110,7 +110,7 @@ module _ (g : Code) (es : List Event) (e : Event) (L M : List Entry) (A B : ℕ 
         let same : at G (l .index) ≡ closed (layout-of g) s (es ++ e ∷ []) (at F (l .index)) =
               at-G (l .index) (l .among) ∙ cond-true (at F (l .index) .client && (at F (l .index) .is-open && newer (at F (l .index) .object))) _ _
                 (and-from (at F (l .index) .client) _ cl (and-from (at F (l .index) .is-open) (newer (at F (l .index) .object)) (l .open-too)
-                  (subst (λ y. newer y ≡ true) (sym obj′) (and-from (enters M x t) (ltb (best L x (A s)) t) is-in low)))) in
+                  (subst (λ y. newer y ≡ true) (sym obj′) (and-from (enters M x t) (ltb (best L x (A s)) t) (is-in low) low)))) in
         let tag-is : told.latest s (at F (l .index) .object) (es ++ e ∷ []) ≡ tag-at t = latest-same (es ++ e ∷ []) M B after s (at F (l .index) .object) ∙ ap tag-at (ap (λ y. best M y (B s)) obj′ ∙ result low) in
         gone (ap (λ (r : Read). ltb i slots && is-open r) over ∙ and-right (ltb i slots) false refl) (ap (λ (r : Followed). r .is-open) same)
           (λ _ _. subst (Answers G) (sym over) (record {

@@ -152,7 +152,7 @@ module _ (g : Code) where
         put-peaks s (entered p e) _ (entered-peak p e (omega arith)) (reads-same s (entered p e) (λ i w. refl))
 
     pub encode-peaks : (s x : ℕ) (d : Found) → Kept (encode g S s x d)
-    encode-peaks s x d = encode-cases g S Kept (λ r. h) s x d (λ o. h) (λ t v _ _ lt e. move-peaks s x t v lt e) (λ _ _ _. enter-peaks s x (d .value))
+    encode-peaks s x d = encode-cases g S Kept (λ r. h) s x d (λ o _. h) (λ t v _ _ lt e. move-peaks s x t v lt e) (λ _ _ _. enter-peaks s x (d .value))
         (λ _ _ _ _ _ _. open-peaks s (clients + x) x (λ lt. absurd (omega arith)))
 
     idle-low : (s x u : ℕ) → s < g .n → Idle (g .n) (g .k) (has g) (core S) s x u → u ≤ S .servers s .own x

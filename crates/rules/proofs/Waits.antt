@@ -121,7 +121,7 @@ module _ (g : Code) (S : State) (h : Waits g S) where
         hand-waits a b i r (not-recovered g (r .hand) (r .symbols) (r .object) f (ok (Coded m v st) ms e an bn lt mend) no-rec))
       (λ o m x T. question-waits a b (reply g b (S .servers b) m x T))
   step-waits (Apply s) f ok = apply-cases g S Kept (λ r. h) s h (λ b _. apply-done-waits s (b .write) (b .others))
-  step-waits (Encode s x) f ok = encode-cases g S Kept (λ r. h) s x f (λ o. h) (λ t v _ _ _ _. move-waits s x t v) (λ _ _ _. enter-waits s (record { object = x; tag = S .servers s .own x; value = f .value }))
+  step-waits (Encode s x) f ok = encode-cases g S Kept (λ r. h) s x f (λ o _. h) (λ t v _ _ _ _. move-waits s x t v) (λ _ _ _. enter-waits s (record { object = x; tag = S .servers s .own x; value = f .value }))
       (λ sn xk _ no-rec _ _. open-waits s (clients + x) x (not-recovered g (only g s) (λ _. S .servers s .symbol) x f (ok sn xk) no-rec))
   step-waits (Sweep s x) f ok = sweep-cases g S Kept (λ r. h) s x (λ _ _. sweep-done-waits s x)
 
