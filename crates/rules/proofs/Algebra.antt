@@ -68,6 +68,10 @@ module _ (g : Code) (R : Lawful g) where
         ap₂ (g .plus) (sum-change n t u x d (omega arith) (λ j l. bt j (omega arith)) bd (λ j l w. same j (omega arith) w) here) (same n (omega arith) (λ q. ne (sym q)))
         ∙ R .plus-assoc s d (t n) sb bd tn ∙ ap (g .plus s) (R .plus-comm d (t n) bd tn) ∙ sym (R .plus-assoc s (t n) d sb tn bd) ]
 
+  pub mix-below : (s : ℕ) (r : ℕ → ℕ) → mix g s r < g .q
+  unfolding mix
+  mix-below s r = sum-below (g .k) (λ y. g .times (g .coefficient s y) (r y))
+
   -- terms that a coefficient of 0 hides may differ
   pub mix-same : (s : ℕ) (r t : ℕ → ℕ) → ((y : ℕ) → y < g .k → g .times (g .coefficient s y) (r y) ≡ g .times (g .coefficient s y) (t y)) → mix g s r ≡ mix g s t
   unfolding mix

@@ -76,7 +76,7 @@ unique-push L e h new x y t a b =
     object-of : (z : ℕ) → same-entry z t e ≡ true → e .object ≡ z
     object-of z w = eqb-true (e .object) z (and-parts (eqb (e .object) z) (eqb (e .tag) t) w .0)
 
-all-entered : (P : ℕ → Type 0) (L : List Entry) (x t : ℕ) → All (λ e. P (e .tag)) L → enters L x t ≡ true → P t
+pub all-entered : (P : ℕ → Type 0) (L : List Entry) (x t : ℕ) → All (λ e. P (e .tag)) L → enters L x t ≡ true → P t
 unfolding enters
 all-entered P [] x t h e = absurd (both-ways false refl e)
 all-entered P (d ∷ L) x t h e = ⊎-elim (λ q. subst P (eqb-true (d .tag) t (and-parts (eqb (d .object) x) (eqb (d .tag) t) q .1)) (h .0)) (λ q. all-entered P L x t (h .1) q) (or-cases (same-entry x t d) (enters L x t) e)

@@ -42,4 +42,5 @@ pub mod SameLater
 pub mod Told
 pub mod Overtaking
 pub mod Replying
+pub mod FollowSteps
 pub mod Standing
