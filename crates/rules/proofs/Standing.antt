@@ -8,7 +8,7 @@ use native.Mathlib.Omega.{arith}
 use lib.Dec.{eqb, ltb, leb}
 use Rattle.std.specs.shelf.Lists.{All, Has}
 use Rattle.std.proofs.shelf.Lists.{map-append}
-use Rattle.std.proofs.shelf.Tests.{both-ways, and-right}
+use Rattle.std.proofs.shelf.Tests.{both-ways, and-right, and-parts, not-true, eqb-true}
 use Rattle.message.specs.declared.tag.Tag as declared
 use Rattle.field.specs.Laws.{Ring}
 use Rattle.code.specs.Codings.{symbol}
@@ -28,18 +28,24 @@ use lib.ListN.{length}
 use Rattle.std.proofs.shelf.Lists.{getD-push, length-push}
 use Rattle.rules.proofs.Lists.{each-push, Image, has-image, image-has}
 use Rattle.rules.proofs.Past.{Made, no-made, Writes, nth, Longer, pushed, pushed-last, pushed-among, pushed-longer, past-brought}
+use Rattle.rules.proofs.Heights.{Heights, Proper, step-heights, step-proper}
+use Rattle.rules.proofs.Following.{at, Linked, Answers, Stands-at, Follows, reads-push}
+use Rattle.rules.proofs.FollowSteps.{newF, step-follows}
+use Rattle.rules.proofs.Words.{seek-found}
+use Rattle.code.specs.Recovery.{Recovers}
+use Rattle.std.proofs.shelf.Elements.{all-from-getD}
 use Rattle.rules.proofs.Notices.{Traced, made-write, made-by, step-traced, fresh-traced}
 use Rattle.message.specs.Tags.{rank}
 use Rattle.rules.proofs.Unranked.{tag-at, message-at}
-use Rattle.rules.proofs.Ranked.{Code, layout-of, Entry, Server, State, enters, kept, fresh, slots}
+use Rattle.rules.proofs.Ranked.{Code, layout-of, Entry, Read, Server, State, clients, enters, kept, fresh, slots}
 use Rattle.rules.proofs.RankedSteps as Steps
 use Rattle.rules.proofs.RankedSteps.{Answer, Refused, Tag, Value, Number, Still, Nothing, Outcome, Count, Turn, write-refusal, write-tag}
 use Rattle.rules.proofs.RankedLaw as law
 use Rattle.rules.proofs.RankedLaw.{accepted-by, applies, best, Lawful, Waits}
-use Rattle.rules.proofs.View.{entry-at, state-at, answer-at, turn-at, fresh-at, has-entry-at, holds-at, rank-at}
+use Rattle.rules.proofs.View.{entry-at, asking-at, given-at, read-at, Shape, shape-free, shape-open, shape-answered, shape, state-at, answer-at, turn-at, fresh-at, has-entry-at, holds-at, rank-at}
 use Rattle.rules.proofs.Told.{step-same, allowed, Tells, latest-same, given-same, tells-push}
 use Rattle.rules.proofs.Deliver.{deliver-six}
-use Rattle.rules.proofs.Cases.{write-cases}
+use Rattle.rules.proofs.Cases.{write-cases, read-cases, collect-cases}
 use Rattle.rules.proofs.Coded.{checked-write}
 use Rattle.rules.proofs.Growing.{new-tag}
 use Rattle.rules.proofs.Algebra.{mix-symbol}
@@ -192,6 +198,72 @@ module _ (g : Code) (R : Lawful g) (es : List Event) (L : List Entry) (A : ℕ �
       X : Writes
       X = made-by g R L A S known W traced (m .call) (Steps.step g S (m .call) (m .found) .answer)
 
+-- ---- reads
+
+pub number-was : (a : Answer) (m : ℕ) → answer-at a ≡ turns.Numbered m → a ≡ Number m
+number-was (Refused r) m e = absurd (let z : _≡_ {A = ℕ} 0 1 = cc in omega arith)
+number-was (Tag t) m e = absurd (let z : _≡_ {A = ℕ} 0 1 = cc in omega arith)
+number-was (Value v t w) m e = absurd (let z : _≡_ {A = ℕ} 0 1 = cc in omega arith)
+number-was (Number p) m e = let z : p ≡ m = cc in ap Number z
+number-was Still m e = absurd (let z : _≡_ {A = ℕ} 0 1 = cc in omega arith)
+number-was Nothing m e = absurd (let z : _≡_ {A = ℕ} 0 1 = cc in omega arith)
+number-was (Outcome p) m e = absurd (let z : _≡_ {A = ℕ} 0 1 = cc in omega arith)
+number-was (Count c) m e = absurd (let z : _≡_ {A = ℕ} 0 1 = cc in omega arith)
+
+-- the reads of each server are followed
+abbrev pub All-followed : Code → List Event → State → Type 0
+All-followed g es S = (k : ℕ) → k < g .n → Follows k (told.reads-of (layout-of g) k es) (S .servers k .reads) (S .servers k .opened)
+
+module _ (g : Code) (es : List Event) (S : State) (follows : All-followed g es S) where
+  -- the number of the next read
+  next-number : (s x cells : ℕ) (f : Found) (m : ℕ) → Steps.read g S s x cells f .answer ≡ Number m → m ≡ suc (length (told.reads-of (layout-of g) s es))
+  next-number s x cells f m = read-cases g S (λ t. t .answer ≡ Number m → m ≡ suc (length (told.reads-of (layout-of g) s es)))
+      (λ r e. absurd (let z : _≡_ {A = ℕ} 0 1 = cc in omega arith)) s x cells f
+      (λ _ _ _ e. absurd (let z : _≡_ {A = ℕ} 0 1 = cc in omega arith)) (λ _ _ _ _ e. absurd (let z : _≡_ {A = ℕ} 0 1 = cc in omega arith))
+      (λ sn _ _ _ _ e. let z : S .servers s .opened + 1 ≡ m = cc in let c = follows s sn .count in omega arith)
+
+  answers-closed : (s m : ℕ) (r : Read) (v : List ℕ) (t : declared.Tag) → Answers (told.reads-of (layout-of g) s es) r → r .number ≡ m → r .value ≡ v → tag-at (r .tag) ≡ t → rule.Closed-with (layout-of g) es s m v t
+  answers-closed s m r v t a en ev et = record {
+      before-it = a .index; number = sym en ∙ a .number; among = a .among; client = a .client; closed = a .closed; tag = sym et ∙ a .tag; value = sym ev ∙ a .value }
+
+  -- what collect gives
+  given-closed : (s m cells : ℕ) (v : List ℕ) (r : ℕ) (t : declared.Tag) (way : ℕ) → t ≡ tag-at r → Steps.collect g S s m cells .answer ≡ Value v r way → rule.Closed-with (layout-of g) es s m v t
+  given-closed s m cells v r t way et = collect-cases g S (λ z. z .answer ≡ Value v r way → rule.Closed-with (layout-of g) es s m v t)
+      (λ q e. absurd (let z : _≡_ {A = ℕ} 0 1 = cc in omega arith)) s m cells (λ e. absurd (let z : _≡_ {A = ℕ} 0 1 = cc in omega arith))
+      (λ i ei sn ic shut e.
+        let rd = S .servers s .reads i in
+        let vv : rd .value ≡ v = cc in
+        let tt′ : rd .tag ≡ r = cc in
+        let found = subst (λ k. (not (eqb (S .servers s .reads k .state) 0) && eqb (S .servers s .reads k .number) m) ≡ true) (sym ei)
+              (seek-found clients (λ i. not (eqb (S .servers s .reads i .state) 0) && eqb (S .servers s .reads i .number) m) (subst (λ k. k < clients) ei ic)) in
+        let w = and-parts (not (eqb (rd .state) 0)) (eqb (rd .number) m) found in
+        answers-closed s m rd v t (follows s sn .kept i ic (not-true (eqb (rd .state) 0) (w .0)) shut) (eqb-true (rd .number) m (w .1)) vv (ap tag-at tt′ ∙ sym et))
+
+  -- what the group keeps
+  kept-closed : (s i : ℕ) (r : model.Given) → s < g .n → i < clients → read-at (S .servers s .reads i) ≡ model.Answered r → rule.Closed-with (layout-of g) es s (r .number) (r .value) (r .tag)
+  kept-closed s i r sn ic e = by (shape (S .servers s .reads i))
+    where
+      by : Shape (S .servers s .reads i) → rule.Closed-with (layout-of g) es s (r .number) (r .value) (r .tag)
+      by (shape-free q w z) = absurd (let c : model.Free ≡ model.Answered r = sym z ∙ e in let d : _≡_ {A = ℕ} 0 1 = cc in omega arith)
+      by (shape-open q w z) = absurd (let c : model.Open (asking-at (S .servers s .reads i)) ≡ model.Answered r = sym z ∙ e in let d : _≡_ {A = ℕ} 0 1 = cc in omega arith)
+      by (shape-answered q w z) =
+          let c : model.Answered (given-at (S .servers s .reads i)) ≡ model.Answered r = sym z ∙ e in
+          let d : given-at (S .servers s .reads i) ≡ r = cc in
+          answers-closed s (r .number) (S .servers s .reads i) (r .value) (r .tag) (follows s sn .kept i ic q w)
+            (ap (λ (k : model.Given). k .number) d) (ap (λ (k : model.Given). k .value) d) (ap (λ (k : model.Given). k .tag) d)
+
+  -- open reads wait
+  open-wait : Waits g S → rule.Open-reads-wait (layout-of g) es
+  open-wait waits s sn = all-from-getD _ (told.reads-of (layout-of g) s es) (told.just-opened 0 false) (λ k lt op rec.
+      let h = follows s sn in
+      let st = h .stands k lt op in
+      let ln = h .links (st .place) (st .lives) in
+      let same : ln .index ≡ k = let a = ln .number in let b = st .number in omega arith in
+      let r = S .servers s .reads (st .place) in
+      let hand : rule.with-own s (at (told.reads-of (layout-of g) s es) k .repliers) ≡ r .hand = subst (λ z. rule.with-own s (at (told.reads-of (layout-of g) s es) z .repliers) ≡ r .hand) same (fun-ext (ln .hand)) in
+      let object : at (told.reads-of (layout-of g) s es) k .object ≡ r .object = subst (λ z. at (told.reads-of (layout-of g) s es) z .object ≡ r .object) same (ln .object) in
+      waits s (st .place) sn (st .lives) (subst (λ z. Recovers (layout-of g .code) (r .hand) z) object (subst (λ z. Recovers (layout-of g .code) z (at (told.reads-of (layout-of g) s es) k .object)) hand rec)))
+
 -- ---- the joint invariant
 
 pub record Stand (g : Code) (R : Lawful g) (es : List Event) (seen : model.State) : Type 0 where
@@ -208,6 +280,11 @@ pub record Stand (g : Code) (R : Lawful g) (es : List Event) (seen : model.State
   pub writes : Writes
   pub traced : Traced g writes done state
   pub made : (before : List Event) (e : Event) (later : List Event) → es ≡ before ++ e ∷ later → All-made g writes before e
+  pub heights : Heights done state
+  pub proper : Proper g log
+  pub follows : All-followed g es state
+  pub numbered : rule.Reads-numbered (layout-of g) es
+  pub collected : rule.Collected (layout-of g) es
 
 module _ (g : Code) (R : Lawful g) (es : List Event) (L : List Entry) (A : ℕ → List ℕ) (S : State) (tells : Tells es L A) (known : Known g R L A S) (m : Move) (ok : runs.Allowed (layout-of g) (state-at S) (m .call) (m .found)) where
   answer-same : event (layout-of g) (state-at S) m .answer ≡ answer-at (Steps.step g S (m .call) (m .found) .answer)
@@ -229,8 +306,9 @@ module _ (g : Code) (R : Lawful g) (es : List Event) (L : List Entry) (A : ℕ �
 
   pub step-stands : Waits g S → Differ (map entry-at L) → rule.Replies-usable (layout-of g) es → rule.Read-at-once (layout-of g) es
       → (W : Writes) (traced : Traced g W A S) → ((before : List Event) (e : Event) (later : List Event) → es ≡ before ++ e ∷ later → All-made g W before e)
+      → Heights A S → Proper g L → All-followed g es S → rule.Reads-numbered (layout-of g) es → rule.Collected (layout-of g) es
       → Stand g R (es ++ event (layout-of g) (state-at S) m ∷ []) (runs.after (layout-of g) (state-at S) m)
-  step-stands waits differ usable at-once W traced made = record {
+  step-stands waits differ usable at-once W traced made heights proper follows numbered collected = record {
       log = L ++ accepted-by (m .call) (Steps.step g S (m .call) (m .found) .answer)
     ; done = also A (m .call) (Steps.step g S (m .call) (m .found) .answer)
     ; state = Steps.after g S m
@@ -244,12 +322,26 @@ module _ (g : Code) (R : Lawful g) (es : List Event) (L : List Entry) (A : ℕ �
         es (event (layout-of g) (state-at S) m) at-once once
     ; writes = made-by g R L A S known W traced (m .call) (Steps.step g S (m .call) (m .found) .answer)
     ; traced = step-traced g R L A S known W traced (m .call) (m .found)
-    ; made = step-made g R es L A S tells known W traced m made answer-same }
+    ; made = step-made g R es L A S tells known W traced m made answer-same
+    ; heights = step-heights g A S heights (R .few) (m .call) (m .found)
+    ; proper = step-proper g R L proper S (m .call) (m .found)
+    ; follows = λ k kn. subst (λ F. Follows k F (Steps.after g S m .servers k .reads) (Steps.after g S m .servers k .opened)) (sym (followed k))
+        (step-follows g R es L A S tells known heights proper follows (m .call) (m .found) (allowed g S (m .call) (m .found) ok) k kn)
+    ; numbered = each-push (λ before e. (s x cells n : ℕ) → e .call ≡ Ask s x cells → e .answer ≡ turns.Numbered n → n ≡ suc (length (told.reads-of (layout-of g) s before))) es (event (layout-of g) (state-at S) m) numbered
+        (λ s x cells n ec ea. next-number g es S follows s x cells (m .found) n (subst (λ c. Steps.step g S c (m .found) .answer ≡ Number n) ec (number-was (Steps.step g S (m .call) (m .found) .answer) n (sym answer-same ∙ ea))))
+    ; collected = each-push (λ before e. (s n cells : ℕ) (v : List ℕ) (t : declared.Tag) (way : ℕ) → e .call ≡ Collect s n cells → e .answer ≡ turns.Valued v t way → rule.Closed-with (layout-of g) before s n v t) es (event (layout-of g) (state-at S) m) collected
+        (λ s n cells v t way ec ea.
+          let was = value-was (Steps.step g S (m .call) (m .found) .answer) v t way (sym answer-same ∙ ea) in
+          given-closed g es S follows s n cells v (was .ranked) t way (was .tag) (subst (λ c. Steps.step g S c (m .found) .answer ≡ Value v (was .ranked) way) ec (was .is))) }
+    where
+      followed : (k : ℕ) → told.reads-of (layout-of g) k (es ++ event (layout-of g) (state-at S) m ∷ []) ≡ newF g R es L A S tells known heights proper follows (m .call) (Steps.step g S (m .call) (m .found) .answer) k
+      followed k = reads-push (layout-of g) k es (event (layout-of g) (state-at S) m)
+          ∙ ap (λ (a : turns.Answer). told.follow-all (layout-of g) k 1 es (let e : Event = record { call = m .call; answer = a; oldest = told.oldest-of (state-at S) (m .call) } in e) (told.reads-of (layout-of g) k es) ++ told.opened-by k (m .call) a) answer-same
 
 pub move-stands : (g : Code) (R : Lawful g) (es : List Event) (seen : model.State) → Stand g R es seen → (m : Move) → runs.Allowed (layout-of g) seen (m .call) (m .found)
     → Stand g R (es ++ event (layout-of g) seen m ∷ []) (runs.after (layout-of g) seen m)
 move-stands g R es seen h m = subst (λ (z : model.State). runs.Allowed (layout-of g) z (m .call) (m .found) → Stand g R (es ++ event (layout-of g) z m ∷ []) (runs.after (layout-of g) z m)) (sym (h .view))
-    (λ ok. step-stands g R es (h .log) (h .done) (h .state) (h .tells) (h .known) m ok (h .waits) (h .differ) (h .usable) (h .at-once) (h .writes) (h .traced) (h .made))
+    (λ ok. step-stands g R es (h .log) (h .done) (h .state) (h .tells) (h .known) m ok (h .waits) (h .differ) (h .usable) (h .at-once) (h .writes) (h .traced) (h .made) (h .heights) (h .proper) (h .follows) (h .numbered) (h .collected))
 
 -- the calls done so far, of a run that goes on
 pub run-stands : (g : Code) (R : Lawful g) (es : List Event) (seen : model.State) → Stand g R es seen → (done later : List Move) → runs.Allowed-run (layout-of g) seen (done ++ later)
@@ -273,7 +365,16 @@ new-stands g R = record {
   ; usable = λ before e later q. absurd (never-split before e later q)
   ; at-once = λ before e later q. absurd (never-split before e later q)
   ; writes = λ _. []; traced = fresh-traced g
-  ; made = λ before e later q. absurd (never-split before e later q) }
+  ; made = λ before e later q. absurd (never-split before e later q)
+  ; heights = λ k. tt; proper = tt
+  ; follows = λ k kn. record {
+      count = refl; few = omega arith
+    ; links = λ i lv. absurd (both-ways (ltb i slots && false) (and-right (ltb i slots) false refl) lv)
+    ; stands = λ j lt. absurd (omega arith)
+    ; apart = λ i j lv. absurd (both-ways (ltb i slots && false) (and-right (ltb i slots) false refl) lv)
+    ; kept = λ i ic q. absurd (both-ways true q refl) }
+  ; numbered = λ before e later q. absurd (never-split before e later q)
+  ; collected = λ before e later q. absurd (never-split before e later q) }
 
 -- ---- from the invariant to the law
 
@@ -299,3 +400,18 @@ module _ (g : Code) (R : Lawful g) (es : List Event) (seen : model.State) (h : S
       let was = has-image tag-at (M .past) u (subst (λ l. Has l u) (sym (made .past)) hu) in
       let brought = past-brought (g .n) (h .writes) (h .done) (λ s j. h .state .servers s .clock j) (h .traced .counts) j (made .place) s (made .is-server) (made .among) sn (subst (Has (h .done s)) same (at .has)) (was .from) (was .has) in
       subst (λ l. Has l u) (sym (h .tells .applied s)) (subst (Has (map tag-at (h .done s))) (was .is) (image-has tag-at (h .done s) (was .from) brought))
+
+  pub wait-from : rule.Open-reads-wait (layout-of g) es
+  wait-from = open-wait g es (h .state) (h .follows) (h .waits)
+
+  pub kept-from : rule.Kept (layout-of g) es seen
+  kept-from s i r sn ic e = kept-closed g es (h .state) (h .follows) s i r sn ic (sym (ap (λ (z : model.State). z .servers s .reads i) (h .view)) ∙ e)
+
+  pub law-from : rule.Law (layout-of g) es seen
+  law-from = record {
+      encoded = encoded-from; replies-usable = h .usable; open-reads-wait = wait-from; read-at-once = h .at-once; reads-numbered = h .numbered
+    ; collected = h .collected; kept = kept-from; past-applied = past-from; tags-differ = differ-from }
+
+-- the run law
+pub run-law : rule.Run-law
+run-law l r a done later ok = let R = lawful l r a in law-from (code-of l) R _ _ (run-stands (code-of l) R [] (new-group l) (new-stands (code-of l) R) done later ok)
