@@ -7,7 +7,7 @@ use lib.Dec.{eqb}
 use lib.ListN.{length, getD}
 use Rattle.terms.specs.Lists.{listed}
 use Rattle.field.specs.Arithmetic.{Arithmetic}
-use Rattle.code.specs.Sums.{dot}
+use Rattle.field.specs.Sums.{dot}
 
 -- A code: a field's operations, how many servers, objects and cells there are, and the coefficient of each server and object.
 pub record Coding : Type 0 where

@@ -1,4 +1,3 @@
-pub mod Sums
 pub mod Codings
 pub mod Recovery
 pub mod Layout
