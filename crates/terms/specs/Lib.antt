@@ -1,3 +1,4 @@
+pub mod Answers
 pub mod Items
 pub mod Limits
 pub mod Lists

@@ -2,7 +2,7 @@ ghost use mathlib.Core.Path.{_≡_};
 ghost use mathlib.Core.List.{[], _∷_, _++_};
 ghost use Prim.Native.Nat.{ℕ, _+_, _<_, _≤_};
 ghost use lib.Dec.{ltb};
-ghost use lib.ListN.{length};
+ghost use lib.ListN.{length, getD};
 ghost use Rattle.terms.specs.Items.{items};
 ghost use Rattle.std.specs.Options.{Cases as BySome};
 use super::Bounded;
@@ -29,6 +29,13 @@ impl<T: Copy, const MAX: usize> Bounded<T, MAX> {
     {
         let all = &self.places[..];
         &all[0..self.len]
+    }
+
+    // The item at i, or `other` past the end.
+    pub fn get_or(&self, i: usize, other: T) -> T
+        ensures found { λ r. ⌜ r ≡ getD (items (now (self .entry))) i other ⌝ }
+    {
+        if i < self.len { self.places[i] } else { other }
     }
 
     // Adds an item at the end, and answers true; a full list stays as it is.
