@@ -1,7 +1,7 @@
 -- What a code is, and what it makes of the objects' values. Assumes nothing.
 use mathlib.Core.Path.{_≡_}
-use mathlib.Core.Bool.{Bool, not}
-use mathlib.Core.List.{List}
+use mathlib.Core.Bool.{Bool, cond, not}
+use mathlib.Core.List.{List, []}
 use Prim.Native.Nat.{ℕ, _<_}
 use lib.Dec.{eqb}
 use lib.ListN.{length, getD}
@@ -25,6 +25,14 @@ pub record Value (g : Coding) (v : List ℕ) : Type 0 where
 -- a value for each object
 abbrev pub Values : Coding → (ℕ → List ℕ) → Type 0
 Values g v = (x : ℕ) → x < g .objects → Value g (v x)
+
+-- the value at x of a list of values
+abbrev pub value-at : List (List ℕ) → ℕ → List ℕ
+value-at vs x = getD vs x []
+
+-- the values v, with another one for the object x
+abbrev pub replaced : (ℕ → List ℕ) → ℕ → List ℕ → ℕ → List ℕ
+replaced v x new y = cond (eqb y x) new (v y)
 
 -- a server contains an object if its coefficient there is not 0
 abbrev pub contains : Coding → ℕ → ℕ → Bool

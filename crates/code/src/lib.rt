@@ -1,1 +1,3 @@
 // Codes: tables of coefficients over a field, symbols, re-encoding, recovery and decoding.
+pub mod code;
+pub mod servers;

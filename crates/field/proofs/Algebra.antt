@@ -79,6 +79,19 @@ module _ {ar : Arithmetic} (R : Ring ar) where
   sum-zero zero t e = refl
   sum-zero (suc n) t e = ap₂ (ar .plus) (sum-zero n t (λ j h. e j (omega arith))) (e n (omega arith)) ∙ R .plus-zero 0 zero-below
 
+  -- a sum ends where its terms are 0 from then on
+  pub sum-short : (n k : ℕ) (t : ℕ → ℕ) → k ≤ n → ((j : ℕ) → k ≤ j → j < n → t j ≡ 0) → sum ar n t ≡ sum ar k t
+  unfolding sum
+  sum-short zero k t h e = let none : k ≡ 0 = omega arith in ap (λ (v : ℕ). sum ar v t) (sym none)
+  sum-short (suc n) k t h e =
+      elim (cases-eq k (suc n)) [
+        | inl all ↦ ap (λ (v : ℕ). sum ar v t) (sym all)
+        | inr ne ↦
+            let within : k ≤ n = omega arith in
+            ap (ar .plus (sum ar n t)) (e n within (omega arith)) ∙ R .plus-zero (sum ar n t) (sum-below n t)
+            ∙ sum-short n k t within (λ j low high. e j low (omega arith))
+      ]
+
   pub sum-one : (n c : ℕ) (t : ℕ → ℕ) → c < n → t c < ar .size → ((j : ℕ) → j < n → (j ≡ c → ⊥) → t j ≡ 0) → sum ar n t ≡ t c
   unfolding sum
   sum-one zero c t h b e = absurd (not-suc-le-zero h)
@@ -134,6 +147,12 @@ module _ {ar : Arithmetic} (R : Ring ar) where
 
   pub dot-same : (n : ℕ) (g h x : ℕ → ℕ) → ((j : ℕ) → j < n → g j ≡ h j) → dot ar n g x ≡ dot ar n h x
   dot-same n g h x e = sum-same n (λ j. (ar .times) (g j) (x j)) (λ j. (ar .times) (h j) (x j)) (λ j k. ap (λ (v : ℕ). ar .times v (x j)) (e j k))
+
+  pub dot-same-right : (n : ℕ) (g x y : ℕ → ℕ) → ((j : ℕ) → j < n → x j ≡ y j) → dot ar n g x ≡ dot ar n g y
+  dot-same-right n g x y e = sum-same n (λ j. ar .times (g j) (x j)) (λ j. ar .times (g j) (y j)) (λ j k. ap (ar .times (g j)) (e j k))
+
+  pub dot-zero-left : (n : ℕ) (g x : ℕ → ℕ) → Below (ar .size) n x → ((j : ℕ) → j < n → g j ≡ 0) → dot ar n g x ≡ 0
+  dot-zero-left n g x b z = sum-zero n (λ j. ar .times (g j) (x j)) (λ j h. ap (λ (v : ℕ). ar .times v (x j)) (z j h) ∙ zero-times (x j) (b j h))
 
   pub dot-added : (n f : ℕ) (old by new x : ℕ → ℕ) → f < ar .size → Below (ar .size) n old → Below (ar .size) n by → Below (ar .size) n x
       → ((j : ℕ) → j < n → new j ≡ ar .plus (old j) (ar .times f (by j)))

@@ -31,13 +31,6 @@ leader f (suc n) j =
     ]
 
 module _ {ar : Arithmetic} (R : Ring ar) where
-  dot-same-right : (n : ℕ) (g x y : ℕ → ℕ) → ((j : ℕ) → j < n → x j ≡ y j) → dot ar n g x ≡ dot ar n g y
-  dot-same-right n g x y e = algebra.sum-same R n (λ j. (ar .times) (g j) (x j)) (λ j. (ar .times) (g j) (y j)) (λ j k. ap (ar .times (g j)) (e j k))
-
-  dot-zero-left : (n : ℕ) (g x : ℕ → ℕ) → Below (ar .size) n x → ((j : ℕ) → j < n → g j ≡ 0) → dot ar n g x ≡ 0
-  dot-zero-left n g x b z =
-      algebra.sum-zero R n (λ j. (ar .times) (g j) (x j)) (λ j h. ap (λ (v : ℕ). ar .times v (x j)) (z j h) ∙ algebra.zero-times R (x j) (b j h))
-
   module _ (rows s : List (List ℕ)) (L : Widened ar rows s) where
     -- at the start each row makes of the unknowns what the row of the matrix makes of them
     row-start : (x : ℕ → ℕ) → Below (ar .size) 6 x → (i : ℕ) → i < 6 → dot ar 6 (entry s i) x ≡ dot ar 6 (entry rows i) x
@@ -185,7 +178,7 @@ module _ {ar : Arithmetic} (R : Ring ar) where
                 (λ j hj nl nk. elsewhere j hj nl nk)
                 ∙ ap (ar .plus (ar .times (entry m i l) (hidden l))) at-k ∙ hidden-is l .value-led i hi refl (at .within) (at .apart)
             | inr un ↦
-                dot-zero-left 6 (entry m i) hidden hidden-below
+                algebra.dot-zero-left R 6 (entry m i) hidden hidden-below
                 (λ j hj. elim (cases-eq j k) [ inl own ↦ ap (entry m i) own ∙ z i hi un | inr ne ↦ e .clear j hj ne i hi un ])
           ]
         where
@@ -223,7 +216,7 @@ module _ {ar : Arithmetic} (R : Ring ar) where
       let none-below : Below (ar .size) 6 none = λ j h. algebra.zero-below R in
       let only-none : (j : ℕ) → j < 6 → only j ≡ 0 = λ j h. ap (λ (b : Bool). cond b 0 1) (lt-ltb j 6 h) in
       let only-below : Below (ar .size) 6 only = λ j h. subst (λ (v : ℕ). v < ar .size) (sym (only-none j h)) (algebra.zero-below R) in
-      let agree : only k ≡ 0 = determined only none only-below none-below (λ i hi. dot-same-right 6 (entry rows i) only none only-none) in
+      let agree : only k ≡ 0 = determined only none only-below none-below (λ i hi. algebra.dot-same-right R 6 (entry rows i) only none only-none) in
       let one : only k ≡ 1 = ap (λ (b : Bool). cond {A = ℕ} b 0 1) (le-ltb k 6 past) in
       omega arith
 
@@ -231,5 +224,5 @@ module _ {ar : Arithmetic} (R : Ring ar) where
 pub solved-determines : {ar : Arithmetic} (R : Ring ar) (rows : List (List ℕ)) (k : ℕ) (factors : List ℕ) → Solves ar rows k factors → Determines ar rows k
 solved-determines R rows k factors sol x y hx hy same =
     sym (sol .adds-up x hx)
-    ∙ dot-same-right R 6 (λ i. getD factors i 0) (λ i. row-sum _ rows i x) (λ i. row-sum _ rows i y) same
+    ∙ algebra.dot-same-right R 6 (λ i. getD factors i 0) (λ i. row-sum _ rows i x) (λ i. row-sum _ rows i y) same
     ∙ sol .adds-up y hy

@@ -8,14 +8,7 @@ use native.Mathlib.Numerals.{add-one}
 use native.Mathlib.Omega.{arith}
 use Rattle.std.proofs.shelf.Tests.{cases-eq, cases-bool}
 use Rattle.terms.specs.Lists.{every}
-
-both-left : (a b : Bool) → (a && b) ≡ true → a ≡ true
-both-left true b t = refl
-both-left false b t = t
-
-both-right : (a b : Bool) → (a && b) ≡ true → b ≡ true
-both-right true b t = t
-both-right false b t = cc
+use Rattle.terms.proofs.Tests.{and-left, and-right}
 
 pub every-none : (f : ℕ → Bool) → every 0 f ≡ true
 unfolding every
@@ -31,8 +24,8 @@ unfolding every
 every-at zero f t k h = absurd (not-suc-le-zero h)
 every-at (suc n) f t k h =
     elim (cases-eq k n) [
-      | inl e ↦ ap f e ∙ both-right (every n f) (f n) t
-      | inr ne ↦ every-at n f (both-left (every n f) (f n) t) k (omega arith)
+      | inl e ↦ ap f e ∙ and-right (every n f) (f n) t
+      | inr ne ↦ every-at n f (and-left (every n f) (f n) t) k (omega arith)
     ]
 
 pub every-all : (n : ℕ) (f : ℕ → Bool) → ((k : ℕ) → k < n → f k ≡ true) → every n f ≡ true

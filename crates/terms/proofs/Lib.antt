@@ -1,2 +1,4 @@
 pub mod Each
 pub mod Every
+pub mod Listed
+pub mod Tests
