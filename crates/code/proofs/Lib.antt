@@ -1,5 +1,5 @@
 pub mod Cellwise
 pub mod Choosing
 pub mod Everyone
-pub mod Members
+pub mod Known
 pub mod Sizes

@@ -8,14 +8,11 @@ use Rattle.std.specs.declared.option.Option.{Option}
 use Rattle.std.specs.declared.option.Option.the-variants.{Some, None}
 use Rattle.terms.specs.declared.refusal.Refusal.{Refusal}
 use Rattle.terms.specs.declared.refusal.Refusal.the-variants.{NoSuchServer, NoSuchObject, WrongLength, NoElement}
+use Rattle.terms.specs.Answers.{unless}
 use Rattle.terms.specs.Limits.{max-servers}
 use Rattle.terms.specs.Lists.{each, every}
 use Rattle.code.specs.Codings.{Coding}
 use Rattle.code.specs.Layout.{all-elements}
-
--- refused by e unless the test passes; then as the rest says
-abbrev pub unless : Bool → Refusal → Option Refusal → Option Refusal
-unless test e rest = cond test rest (Some e)
 
 -- each server of the set is one of the code's
 abbrev pub known-set : ℕ → (ℕ → Bool) → Bool

@@ -3,3 +3,4 @@ pub mod Items
 pub mod Limits
 pub mod Lists
 pub mod Refusals
+pub mod Sets

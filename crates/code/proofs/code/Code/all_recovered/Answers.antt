@@ -7,7 +7,7 @@ use borrow.Author.Tests.{both-ways}
 use Rattle.code.specs.Layout.{everyone}
 use Rattle.code.specs.Meaning.{meaning}
 use Rattle.code.specs.Recovery.{Recovers}
-use Rattle.code.specs.Sets.{member}
+use Rattle.terms.specs.Sets.{member}
 use Rattle.code.proofs.Everyone.{everyone-from-full, full-from-everyone}
 use Rattle.code.proofs.code.Code.all_recovered.Needs as need
 

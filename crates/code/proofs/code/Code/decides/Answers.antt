@@ -2,7 +2,7 @@ use mathlib.Core.Path.{_≡_, refl}
 use mathlib.Core.Bool.{Bool, true, false}
 use borrow.Author.Tests.{both-ways}
 use Rattle.code.specs.Meaning.{meaning}
-use Rattle.code.specs.Sets.{member}
+use Rattle.terms.specs.Sets.{member}
 use Rattle.matrix.proofs.Decides.{solved-determines}
 use Rattle.code.proofs.Cellwise.{decided}
 use Rattle.code.proofs.code.Code.decides.Needs as need

@@ -8,9 +8,9 @@ use Rattle.terms.specs.Items.{items}
 use Rattle.code.specs.Codings.{value-at}
 use Rattle.code.specs.Meaning.{meaning}
 use Rattle.code.specs.Recovery.{Decoded}
-use Rattle.code.specs.Sets.{member}
+use Rattle.terms.specs.Sets.{member}
 use Rattle.code.proofs.Cellwise.{rows-from-recovers, decoded-by-rows}
-use Rattle.code.proofs.Members.{known-below}
+use Rattle.code.proofs.Known.{known-below}
 use Rattle.code.proofs.code.Code.decoded.Needs as need
 
 pub returns-in-None : need.returns-in-None

@@ -3,7 +3,7 @@ use mathlib.Core.List.{List}
 use Prim.Native.Nat.{ℕ, _+_, _<_}
 use native.Mathlib.Omega.{arith}
 use Rattle.code.specs.Meaning.{meaning}
-use Rattle.code.specs.Sets.{member}
+use Rattle.terms.specs.Sets.{member}
 use Rattle.code.proofs.Choosing.{Choosing, choosing-none, choosing-skip, choosing-more, choosing-all}
 use Rattle.code.proofs.code.Code.rows_of.Needs as need
 use Rattle.code.proofs.code.Code.rows_of.Needs.{then-has, else-has}

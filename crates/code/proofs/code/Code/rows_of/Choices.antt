@@ -1,5 +1,5 @@
 use Rattle.code.specs.Meaning.{meaning}
-use Rattle.code.specs.Sets.{member}
+use Rattle.terms.specs.Sets.{member}
 use Rattle.code.proofs.Choosing.{Choosing}
 use Rattle.code.proofs.code.Code.rows_of.Given as given
 

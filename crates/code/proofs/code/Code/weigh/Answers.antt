@@ -9,7 +9,7 @@ use Rattle.terms.specs.Lists.{listed}
 use Rattle.terms.proofs.Listed.{length-listed, listed-push}
 use Rattle.code.specs.Chosen.{shown}
 use Rattle.code.specs.Codings.{value-at}
-use Rattle.code.specs.Sets.{member}
+use Rattle.terms.specs.Sets.{member}
 use Rattle.code.proofs.code.Code.weigh.Needs as need
 
 pub loop-c-holds : need.loop-c-holds

@@ -6,7 +6,7 @@ use Rattle.terms.specs.Items.{items}
 use Rattle.terms.specs.Lists.{listed}
 use Rattle.code.specs.Chosen.{shown}
 use Rattle.code.specs.Codings.{value-at}
-use Rattle.code.specs.Sets.{member}
+use Rattle.terms.specs.Sets.{member}
 use Rattle.code.proofs.code.Code.weigh.Given as given
 
 abbrev pub Inv-loop-c : given.InvT-loop-c

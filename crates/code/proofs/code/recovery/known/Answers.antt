@@ -5,7 +5,7 @@ use native.Mathlib.Omega.{arith}
 use lib.Dec.{ltb}
 use Rattle.terms.specs.Lists.{every}
 use Rattle.terms.proofs.Every.{every-none, every-more}
-use Rattle.code.specs.Sets.{member}
+use Rattle.terms.specs.Sets.{member}
 use Rattle.code.proofs.code.recovery.known.Needs as need
 
 pub loop-s-holds : need.loop-s-holds

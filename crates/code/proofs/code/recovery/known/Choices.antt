@@ -2,7 +2,7 @@ use mathlib.Core.Path.{_≡_}
 use mathlib.Core.Bool.{not, _||_}
 use lib.Dec.{ltb}
 use Rattle.terms.specs.Lists.{every}
-use Rattle.code.specs.Sets.{member}
+use Rattle.terms.specs.Sets.{member}
 use Rattle.code.proofs.code.recovery.known.Given as given
 
 abbrev pub Inv-loop-s : given.InvT-loop-s

@@ -8,7 +8,7 @@ use Rattle.field.specs.Sums.{sum, dot}
 use Rattle.terms.specs.Items.{items}
 use Rattle.code.specs.Chosen.{shown}
 use Rattle.code.specs.Codings.{value-at}
-use Rattle.code.specs.Sets.{member}
+use Rattle.terms.specs.Sets.{member}
 use Rattle.code.proofs.code.recovery.weigh_cell.Needs as need
 
 pub loop-s-holds : need.loop-s-holds

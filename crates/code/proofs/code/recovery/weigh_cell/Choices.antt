@@ -5,7 +5,7 @@ use Rattle.field.specs.Sums.{dot}
 use Rattle.terms.specs.Items.{items}
 use Rattle.code.specs.Chosen.{shown}
 use Rattle.code.specs.Codings.{value-at}
-use Rattle.code.specs.Sets.{member}
+use Rattle.terms.specs.Sets.{member}
 use Rattle.code.proofs.code.recovery.weigh_cell.Given as given
 
 abbrev pub Inv-loop-s : given.InvT-loop-s

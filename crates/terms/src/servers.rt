@@ -1,8 +1,8 @@
 // Sets of servers.
 ghost use mathlib.Core.Path.{_≡_};
 ghost use lib.ListN.{length};
 ghost use Rattle.terms.specs.Limits.{max-servers};
-use terms::limits::MAX_SERVERS;
+use crate::limits::MAX_SERVERS;
 
 pub mod methods;
 

@@ -3,7 +3,7 @@ use native.Mathlib.Omega.{arith}
 use mathlib.Core.Bool.{false}
 use borrow.Author.Tests.{le-ltb}
 use Rattle.std.proofs.shelf.Lists.{getD-past}
-use Rattle.code.proofs.servers.ServerSet.has.Needs as need
+use Rattle.terms.proofs.servers.ServerSet.has.Needs as need
 
 pub returns-else-server-lt-MAX-SERVERS : need.returns-else-server-lt-MAX-SERVERS
 returns-else-server-lt-MAX-SERVERS c = record {

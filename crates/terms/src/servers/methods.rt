@@ -3,15 +3,15 @@ ghost use mathlib.Core.Bool.{false, _||_, cond};
 ghost use Prim.Native.Nat.{ℕ, _<_};
 ghost use lib.Dec.{eqb, ltb};
 ghost use Rattle.std.specs.declared.option.Option.the-variants.{Some, None};
 ghost use Rattle.terms.specs.Answers.{Answered};
 ghost use Rattle.terms.specs.declared.refusal.Refusal.the-variants.{NoSuchServer};
 ghost use Rattle.terms.specs.Limits.{max-servers};
 ghost use Rattle.terms.specs.Lists.{each};
-ghost use Rattle.code.specs.Sets.{member, among};
-ghost use Rattle.code.specs.Refusing.{unless};
+ghost use Rattle.terms.specs.Sets.{member, among};
+ghost use Rattle.terms.specs.Answers.{unless};
 use super::ServerSet;
-use terms::limits::MAX_SERVERS;
-use terms::refusal::Refusal;
+use crate::limits::MAX_SERVERS;
+use crate::refusal::Refusal;
 
 impl ServerSet {
     pub fn empty() -> ServerSet

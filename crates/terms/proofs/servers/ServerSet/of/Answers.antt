@@ -8,12 +8,12 @@ use lib.ListN.{length, getD, length-set, getD-replicate, take}
 use borrow.Author.Tests.{lt-ltb, le-ltb}
 use Rattle.std.specs.declared.option.Option.the-variants.{Some, None}
 use Rattle.std.proofs.shelf.Lists.{take-all}
 use Rattle.terms.specs.declared.refusal.Refusal.the-variants.{NoSuchServer}
 use Rattle.terms.proofs.Each.{each-stop, each-next, each-done}
-use Rattle.code.specs.Sets.{among}
-use Rattle.code.specs.Refusing.{unless}
-use Rattle.code.proofs.Members.{member-more, among-more, nobody}
-use Rattle.code.proofs.servers.ServerSet.of.Needs as need
+use Rattle.terms.specs.Sets.{among}
+use Rattle.terms.specs.Answers.{unless}
+use Rattle.terms.proofs.Members.{member-more, among-more, nobody}
+use Rattle.terms.proofs.servers.ServerSet.of.Needs as need
 
 pub loop-s-holds : need.loop-s-holds
 loop-s-holds c = (refl, refl, nobody 6)

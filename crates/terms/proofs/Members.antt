@@ -10,9 +10,7 @@ use lib.Seq.{getD-set-same, getD-set-other}
 use borrow.Author.Tests.{eq-eqb, ne-eqb, ltb-true, both-ways}
 use Rattle.std.proofs.shelf.Lists.{take-more}
 use Rattle.std.proofs.shelf.Tests.{cases-eq, cases-lt}
-use Rattle.terms.proofs.Every.{every-at}
-use Rattle.code.specs.Refusing.{known-set}
-use Rattle.code.specs.Sets.{among}
+use Rattle.terms.specs.Sets.{among}
 
 pub member-more : (m : List Bool) (s t : ℕ) → s < length m → getD (set m s true) t false ≡ (eqb t s || getD m t false)
 member-more m s t h =
@@ -40,13 +38,3 @@ pub nobody : (n t : ℕ) → getD (replicate n false) t false ≡ false
 nobody zero t = refl
 nobody (suc n) zero = refl
 nobody (suc n) (suc t) = nobody n t
-
--- a known set has only servers below n; `set` has none past the most that there may be
-pub known-below : (n : ℕ) (chosen : ℕ → Bool) → known-set n chosen ≡ true → ((s : ℕ) → 6 ≤ s → chosen s ≡ false) → (s : ℕ) → chosen s ≡ true → s < n
-known-below n chosen k past s t =
-    elim (cases-lt s 6) [
-      | inl h ↦
-          ltb-true s n
-          (sym (ap (λ (b : Bool). not b || ltb s n) t) ∙ every-at 6 (λ v. not (chosen v) || ltb v n) k s h)
-      | inr h ↦ absurd (both-ways (chosen s) (past s h) t)
-    ]

@@ -4,7 +4,7 @@ use mathlib.Core.List.{List, [], _∷_}
 use Prim.Native.Nat.{ℕ}
 use lib.Dec.{eqb}
 use lib.ListN.{getD}
-use Rattle.code.specs.declared.servers.ServerSet.{ServerSet}
+use Rattle.terms.specs.declared.servers.ServerSet.{ServerSet}
 
 abbrev pub member : ServerSet → ℕ → Bool
 member set s = getD (set .members) s false

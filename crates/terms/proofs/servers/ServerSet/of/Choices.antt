@@ -3,10 +3,10 @@ use mathlib.Core.Bool.{false}
 use Prim.Native.Nat.{ℕ}
 use lib.Dec.{ltb}
 use lib.ListN.{length, getD, take, drop}
 use Rattle.terms.specs.Lists.{each}
 use Rattle.terms.specs.Limits.{max-servers}
-use Rattle.code.specs.Sets.{among}
-use Rattle.code.proofs.servers.ServerSet.of.Given as given
+use Rattle.terms.specs.Sets.{among}
+use Rattle.terms.proofs.servers.ServerSet.of.Given as given
 
 abbrev pub Inv-loop-s : given.InvT-loop-s
 Inv-loop-s l =
