@@ -20,7 +20,7 @@ use Rattle.field.specs.Arithmetic.{Arithmetic}
 use Rattle.code.specs.Layout.{coding, within, all-elements, is-table, size-refusal, Accepted, All-recovered}
 
 -- no refusal: the test passed, and there is none after it
-passed : (t : Bool) (rest : Option Refusal) (e : Refusal) → cond t rest (Some e) ≡ None → (t ≡ true) × (rest ≡ None)
+pub passed : (t : Bool) (rest : Option Refusal) (e : Refusal) → cond t rest (Some e) ≡ None → (t ≡ true) × (rest ≡ None)
 passed true rest e n = (refl, n)
 passed false rest e n = let no-way : _≡_ {A = ℕ} 0 1 = cc in absurd (omega arith)
 

@@ -55,3 +55,8 @@ re-encoded-cell g s x cell old new =
 -- a symbol of the server s, where the value of the object x turns from old to new
 abbrev pub re-encoded : Coding → ℕ → ℕ → List ℕ → List ℕ → List ℕ → List ℕ
 re-encoded g s x symbol old new = listed (g .cells) (λ c. re-encoded-cell g s x (getD symbol c 0) (getD old c 0) (getD new c 0))
+
+-- `turned` is the symbol of the server s after the value of the object x turned from old to new, whatever the values of the other objects
+abbrev pub Turned : Coding → ℕ → ℕ → List ℕ → List ℕ → List ℕ → List ℕ → Type 0
+Turned g s x before old new turned =
+    (v : ℕ → List ℕ) → Values g v → before ≡ symbol g s v → v x ≡ old → turned ≡ symbol g s (replaced v x new)

@@ -7,7 +7,7 @@ use native.Mathlib.Nat.{not-suc-le-zero}
 use native.Mathlib.Omega.{arith}
 use lib.Dec.{eqb}
 use borrow.Author.Tests.{eq-eqb, ne-eqb}
-use Rattle.std.proofs.shelf.Tests.{cases-eq}
+use Rattle.std.proofs.shelf.Tests.{cases-eq, cases-lt}
 use Rattle.field.specs.Arithmetic.{Arithmetic}
 use Rattle.field.specs.Laws.{Ring, Inverses}
 use Rattle.field.specs.Sums.{sum, dot, Below}
@@ -134,6 +134,41 @@ module _ {ar : Arithmetic} (R : Ring ar) where
       high : (x : ℕ) (w : Bool) → x < ar .size → cond w x 0 < ar .size
       high x true h = h
       high x false h = zero-below
+
+  -- one term is d more
+  pub sum-change : (n : ℕ) (t u : ℕ → ℕ) (x d : ℕ) → x < n → Below (ar .size) n t → d < ar .size → ((j : ℕ) → j < n → (j ≡ x → ⊥) → u j ≡ t j) → u x ≡ ar .plus (t x) d
+      → sum ar n u ≡ ar .plus (sum ar n t) d
+  unfolding sum
+  sum-change zero t u x d lt bt bd same here = absurd (not-suc-le-zero lt)
+  sum-change (suc n) t u x d lt bt bd same here =
+      let s : ℕ = sum ar n t in
+      let hs : s < ar .size = sum-below n t in
+      let ht : t n < ar .size = bt n (omega arith) in
+      elim (cases-eq x n) [
+        | inl e ↦
+            let last : u n ≡ ar .plus (t n) d = subst (λ (v : ℕ). u v ≡ ar .plus (t v) d) e here in
+            ap₂ (ar .plus) (sum-same n u t (λ j l. same j (omega arith) (omega arith))) last ∙ sym (R .plus-assoc s (t n) d hs ht bd)
+        | inr ne ↦
+            ap₂ (ar .plus) (sum-change n t u x d (omega arith) (sooner bt) bd (λ j l w. same j (omega arith) w) here) (same n (omega arith) (λ i. ne (sym i)))
+            ∙ R .plus-assoc s d (t n) hs bd ht ∙ ap (ar .plus s) (R .plus-comm d (t n) bd ht) ∙ sym (R .plus-assoc s (t n) d hs ht bd)
+      ]
+
+  -- b is a and their difference
+  pub difference : (a b : ℕ) → a < ar .size → b < ar .size → ar .plus a (ar .plus b (ar .minus a)) ≡ b
+  difference a b ha hb =
+      ap (ar .plus a) (R .plus-comm b (ar .minus a) hb (R .minus-below a)) ∙ sym (R .plus-assoc a (ar .minus a) b ha (R .minus-below a) hb)
+      ∙ ap (λ (v : ℕ). ar .plus v b) (R .plus-minus a ha) ∙ zero-plus b hb
+
+  -- a factor times b is that factor times a and times their difference; also a factor that is no element
+  pub times-difference : (f a b : ℕ) → a < ar .size → b < ar .size → ar .times f b ≡ ar .plus (ar .times f a) (ar .times f (ar .plus b (ar .minus a)))
+  times-difference f a b ha hb =
+      let d : ℕ = ar .plus b (ar .minus a) in
+      elim (cases-lt f (ar .size)) [
+        | inl h ↦ ap (ar .times f) (sym (difference a b ha hb)) ∙ R .times-plus f a d h ha (R .plus-below b (ar .minus a))
+        | inr past ↦
+            R .times-past f b past .0
+            ∙ sym (ap₂ (ar .plus) (R .times-past f a past .0) (R .times-past f d past .0) ∙ R .plus-zero 0 zero-below)
+      ]
 
   -- ---- a row to which a multiple of another was added
 

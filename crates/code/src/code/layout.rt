@@ -10,7 +10,6 @@ ghost use Rattle.code.specs.Meaning.{meaning};
 ghost use Rattle.terms.specs.Sets.{member};
 use super::Code;
 use crate::code::values::all_elements;
-use terms::servers::ServerSet;
 use field::interface::Field;
 use terms::bounded::Bounded;
 use terms::limits::MAX_CELLS;
@@ -19,6 +18,7 @@ use terms::limits::MAX_SERVERS;
 use terms::limits::MAX_TABLE;
 use terms::limits::MIN_SERVERS;
 use terms::refusal::Refusal;
+use terms::servers::ServerSet;
 
 impl<F: Field + Copy> Code<F> {
     // The code of a table that has a row of coefficients for each server, one row after the other.

@@ -19,13 +19,13 @@ ghost use Rattle.code.specs.Refusing.{known-set, recovers-refusal, decode-refu
 ghost use Rattle.terms.specs.Sets.{member};
 use super::Code;
 use crate::code::symbols::cell_of;
-use terms::servers::ServerSet;
 use field::interface::Field;
 use matrix::solving::Matrix;
 use matrix::solving::solve;
 use terms::bounded::Cells;
 use terms::limits::MAX_SERVERS;
 use terms::refusal::Refusal;
+use terms::servers::ServerSet;
 
 impl<F: Field + Copy> Code<F> {
     // Whether the servers of the set recover the object.

@@ -3,10 +3,11 @@ ghost use mathlib.Core.Path.{_≡_};
 ghost use mathlib.Core.List.{List, [], _∷_, map};
 ghost use Prim.Native.Nat.{ℕ, _<_};
 ghost use lib.ListN.{getD};
+ghost use Rattle.std.specs.Vec.{made};
 ghost use Rattle.terms.specs.Answers.{Answered};
 ghost use Rattle.terms.specs.Items.{items};
 ghost use Rattle.terms.specs.Lists.{listed};
-ghost use Rattle.code.specs.Codings.{Values, combination, symbol, re-encoded, re-encoded-cell, replaced, value-at};
+ghost use Rattle.code.specs.Codings.{Values, combination, symbol, re-encoded, Turned, value-at};
 ghost use Rattle.code.specs.Meaning.{meaning};
 ghost use Rattle.code.specs.Refusing.{symbol-refusal, re-encode-refusal};
 use super::Code;
@@ -62,6 +63,7 @@ impl<F: Field + Copy> Code<F> {
         new: &Cells,
     ) -> Result<Cells, Refusal>
         ensures re_encoded_or_refused { λ r. ⌜ Answered (re-encode-refusal (meaning arithmetic (now (self .entry))) server object (items (now (symbol .entry)) ∷ items (now (old .entry)) ∷ items (now (new .entry)) ∷ [])) (λ v. items v ≡ re-encoded (meaning arithmetic (now (self .entry))) server object (items (now (symbol .entry))) (items (now (old .entry))) (items (now (new .entry)))) r ⌝ }
+        ensures turns_the_symbol { λ r. ⌜ made r (λ t. Turned (meaning arithmetic (now (self .entry))) server object (items (now (symbol .entry))) (items (now (old .entry))) (items (now (new .entry))) (items t)) ⌝ }
     {
         if server >= self.servers {
             return Err(Refusal::NoSuchServer);
