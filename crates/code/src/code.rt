@@ -7,9 +7,10 @@ ghost use Rattle.terms.specs.Limits.{min-servers, max-servers, max-objects, max
 use terms::bounded::Bounded;
 use terms::limits::MAX_TABLE;
 
+pub mod coefficients;
 pub mod layout;
-pub mod lookups;
 pub mod recovery;
+pub mod sizes;
 pub mod symbols;
 mod values;
 

@@ -787,7 +787,7 @@ pub impl Field for Gf256 as Gf256Field {
     ghost inverse = { inverse-gf256 };
 
     fn size() -> u16 {
-        256
+        u8::MAX as u16 + 1
     }
 
     fn add(x: u8, y: u8) -> u8 {

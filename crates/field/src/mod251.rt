@@ -269,7 +269,7 @@ pub impl Field for Mod251 as Mod251Field {
     ghost inverse = { inverse-modulo 251 };
 
     fn size() -> u16 {
-        251
+        MODULUS as u16
     }
 
     fn add(x: u8, y: u8) -> u8 {

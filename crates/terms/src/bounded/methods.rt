@@ -21,7 +21,7 @@ impl<T: Copy, const MAX: usize> Bounded<T, MAX> {
     pub fn len(&self) -> usize
         ensures counted { λ r. ⌜ r ≡ length (items (now (self .entry))) ⌝ }
     {
-        self.len
+        self.as_slice().len()
     }
 
     pub fn as_slice(&self) -> &[T]

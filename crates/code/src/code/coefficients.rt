@@ -1,4 +1,4 @@
-// The sizes of a code, and its coefficients.
+// The coefficients of a code, and which server contains which object.
 ghost use mathlib.Core.Path.{_≡_};
 ghost use Rattle.terms.specs.Answers.{Answered};
 ghost use Rattle.code.specs.Codings.{contains};
@@ -9,25 +9,6 @@ use field::interface::Field;
 use terms::refusal::Refusal;
 
 impl<F: Field + Copy> Code<F> {
-    pub fn servers(&self) -> usize
-        ensures counted { λ r. ⌜ r ≡ meaning arithmetic (now (self .entry)) .servers ⌝ }
-    {
-        self.servers
-    }
-
-    pub fn objects(&self) -> usize
-        ensures counted { λ r. ⌜ r ≡ meaning arithmetic (now (self .entry)) .objects ⌝ }
-    {
-        self.objects
-    }
-
-    // How many cells a value has.
-    pub fn cells(&self) -> usize
-        ensures counted { λ r. ⌜ r ≡ meaning arithmetic (now (self .entry)) .cells ⌝ }
-    {
-        self.cells
-    }
-
     pub fn coefficient(&self, server: usize, object: usize) -> Result<u8, Refusal>
         ensures found_or_refused { λ r. ⌜ Answered (place-refusal (meaning arithmetic (now (self .entry))) server object) (λ v. v ≡ meaning arithmetic (now (self .entry)) .coefficient server object) r ⌝ }
     {
