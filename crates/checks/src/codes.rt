@@ -12,8 +12,55 @@ use terms::refusal::RefusalPartialEq;
 use terms::servers::ServerSet;
 
 const UNIT: [u8; 49] = [
-    1, 1, 1, 1, 1, 1, 1, 1, 1, 1, 1, 1, 1, 1, 1, 1, 1, 1, 1, 1, 1, 1, 1, 1, 1, 1, 1, 1, 1, 1, 1, 1,
-    1, 1, 1, 1, 1, 1, 1, 1, 1, 1, 1, 1, 1, 1, 1, 1, 1,
+    1,
+    1,
+    1,
+    1,
+    1,
+    1,
+    1,
+    1,
+    1,
+    1,
+    1,
+    1,
+    1,
+    1,
+    1,
+    1,
+    1,
+    1,
+    1,
+    1,
+    1,
+    1,
+    1,
+    1,
+    1,
+    1,
+    1,
+    1,
+    1,
+    1,
+    1,
+    1,
+    1,
+    1,
+    1,
+    1,
+    1,
+    1,
+    1,
+    1,
+    1,
+    1,
+    1,
+    1,
+    1,
+    1,
+    1,
+    1,
+    1,
 ];
 
 // The number of the refusal, or 0 where the code is laid out.
@@ -98,8 +145,14 @@ fn refusals_of_calls() -> Result<(), Fail> {
     check_eq(number_of(code.symbol(0, &[good, cells(&[251, 0])])), 11)?;
     check_eq(number_of(code.re_encode(3, 2, &good, &good, &good)), 7)?;
     check_eq(number_of(code.re_encode(2, 2, &good, &good, &good)), 8)?;
-    check_eq(number_of(code.re_encode(2, 1, &good, &cells(&[]), &good)), 9)?;
-    check_eq(number_of(code.re_encode(2, 1, &good, &good, &cells(&[0, 255]))), 11)?;
+    check_eq(
+        number_of(code.re_encode(2, 1, &good, &cells(&[]), &good)),
+        9,
+    )?;
+    check_eq(
+        number_of(code.re_encode(2, 1, &good, &good, &cells(&[0, 255]))),
+        11,
+    )?;
     check_eq(code.contains(3, 5), Err(Refusal::NoSuchServer))?;
     check_eq(code.contains(2, 2), Err(Refusal::NoSuchObject))
 }
@@ -108,8 +161,14 @@ fn refusals_of_calls() -> Result<(), Fail> {
 fn sets_of_servers() -> Result<(), Fail> {
     let code = Code::new(Mod251, 3, 2, 1, &[1, 0, 0, 1, 1, 1])?;
     check(ServerSet::of(&[6]).is_err())?;
-    check_eq(code.recovers(&ServerSet::of(&[3])?, 2), Err(Refusal::NoSuchServer))?;
-    check_eq(code.recovers(&ServerSet::of(&[2])?, 2), Err(Refusal::NoSuchObject))?;
+    check_eq(
+        code.recovers(&ServerSet::of(&[3])?, 2),
+        Err(Refusal::NoSuchServer),
+    )?;
+    check_eq(
+        code.recovers(&ServerSet::of(&[2])?, 2),
+        Err(Refusal::NoSuchObject),
+    )?;
     check_eq(code.recovers(&ServerSet::empty(), 0)?, false)?;
     check_eq(code.recovers(&ServerSet::of(&[1, 2])?, 0)?, true)?;
     check_eq(code.recovers(&ServerSet::of(&[0, 0])?, 1)?, false)

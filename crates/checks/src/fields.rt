@@ -55,7 +55,10 @@ fn gf256_products_bit_by_bit() -> Result<(), Fail> {
     for x in 0..256u16 {
         for y in 0..256u16 {
             let by_bits = shifted_product(x, y);
-            check_eq(u16::from(Gf256::mul((x & 255) as u8, (y & 255) as u8)), by_bits)?;
+            check_eq(
+                u16::from(Gf256::mul((x & 255) as u8, (y & 255) as u8)),
+                by_bits,
+            )?;
         }
     }
     Ok(())

@@ -2,16 +2,28 @@
 use terms::bounded::Cells;
 
 pub const OFFICES: usize = 6;
+
 pub const FUNDS: usize = 3;
+
 pub const CELLS: usize = 16;
 
-pub const OFFICE_NAMES: [&str; OFFICES] =
-    ["Seoul", "Mumbai", "Dublin", "London", "Oakland", "Oregon"];
+pub const OFFICE_NAMES: [&str; OFFICES] = [
+    "Seoul",
+    "Mumbai",
+    "Dublin",
+    "London",
+    "Oakland",
+    "Oregon",
+];
 
 pub const FUND_NAMES: [&str; FUNDS] = ["equities", "bonds", "property"];
 
 // A record: the fund's mark, its price and the currency, in sixteen cells.
-const RECORDS: [&[u8; CELLS]; FUNDS] = [b"EQ    104.27 EUR", b"BD     98.51 EUR", b"PR    231.08 EUR"];
+const RECORDS: [&[u8; CELLS]; FUNDS] = [
+    b"EQ    104.27 EUR",
+    b"BD     98.51 EUR",
+    b"PR    231.08 EUR",
+];
 
 // Each office's row: how much of each fund goes into its symbol.
 pub const TABLE: [u8; 18] = [1, 0, 0, 0, 1, 0, 0, 0, 1, 1, 1, 1, 1, 2, 1, 1, 2, 4];

@@ -44,7 +44,10 @@ fn all_symbols<F: Field + Copy>(code: &Code<F>) -> Result<[Cells; OFFICES], AnyE
 // Each office's row and symbol.
 fn kept<F: Field + Copy>(rt: &LibcRuntime, code: &Code<F>) -> Result<(), AnyError> {
     println!(rt, "")?;
-    println!(rt, "  office    row     symbol, cell by cell, in hexadecimal")?;
+    println!(
+        rt,
+        "  office    row     symbol, cell by cell, in hexadecimal"
+    )?;
     for s in 0..OFFICES {
         let name = OFFICE_NAMES[s];
         print!(rt, "  {name:<8}")?;
@@ -66,7 +69,10 @@ fn row<F: Field + Copy>(rt: &LibcRuntime, code: &Code<F>, s: usize) -> Result<()
 // Which sets of the offices in reach recover which fund.
 fn losses<F: Field + Copy>(rt: &LibcRuntime, code: &Code<F>) -> Result<(), AnyError> {
     println!(rt, "")?;
-    println!(rt, "  Seoul, Mumbai and Dublin are out of reach. What the others recover:")?;
+    println!(
+        rt,
+        "  Seoul, Mumbai and Dublin are out of reach. What the others recover:"
+    )?;
     println!(rt, "")?;
     println!(rt, "  equities  bonds  property   asked")?;
     for mask in 1..8usize {
@@ -113,7 +119,10 @@ fn rebuilt<F: Field + Copy>(
     symbols: &[Cells; OFFICES],
 ) -> Result<(), AnyError> {
     println!(rt, "")?;
-    println!(rt, "  Rebuilt from the symbols of London, Oakland and Oregon:")?;
+    println!(
+        rt,
+        "  Rebuilt from the symbols of London, Oakland and Oregon:"
+    )?;
     println!(rt, "")?;
     let set = ServerSet::of(&REACHED)?;
     for x in 0..FUNDS {
@@ -123,7 +132,15 @@ fn rebuilt<F: Field + Copy>(
             Some(value) => {
                 text(rt, &value)?;
                 let same = value.as_slice() == record(x).as_slice();
-                println!(rt, "|  {}", if same { "as it was written" } else { "DIFFERENT" })?;
+                println!(
+                    rt,
+                    "|  {}",
+                    if same {
+                        "as it was written"
+                    } else {
+                        "DIFFERENT"
+                    }
+                )?;
             }
             None => println!(rt, "not recovered|")?,
         }

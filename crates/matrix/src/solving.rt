@@ -16,9 +16,17 @@ pub type Matrix = [[u8; 6]; 6];
 pub fn solve<F: Field>(rows: Matrix, k: usize) -> Option<[u8; 6]>
     ensures exact { λ r. ⌜ BySome r (Determines arithmetic rows k → ⊥) (λ factors. Solves arithmetic rows k factors) ⌝ }
 {
-    if k >= 6 {
-        return None;
+    if k < 6 {
+        eliminated::<F>(rows, k)
+    } else {
+        None
     }
+}
+
+fn eliminated<F: Field>(rows: Matrix, k: usize) -> Option<[u8; 6]>
+    requires { ⌜ k < 6 ⌝ }
+    ensures { λ r. ⌜ BySome r (Determines arithmetic rows k → ⊥) (λ factors. Solves arithmetic rows k factors) ⌝ }
+{
     let reduced = reduce::<F>(widen::<F>(rows), k);
     let p = find_pivot(&reduced.rows, &reduced.lead, k);
     if p >= 6 {

@@ -1,7 +1,7 @@
 ghost use mathlib.Core.Path.{_≡_};
 ghost use mathlib.Core.List.{[], _∷_, _++_};
 ghost use Prim.Native.Nat.{ℕ, _+_, _<_, _≤_};
-ghost use lib.Dec.{ltb};
+ghost use lib.Dec.{leb, ltb};
 ghost use lib.ListN.{length, getD};
 ghost use Rattle.terms.specs.Items.{items};
 ghost use Rattle.std.specs.Options.{Cases as BySome};
@@ -35,7 +35,10 @@ impl<T: Copy, const MAX: usize> Bounded<T, MAX> {
     pub fn get_or(&self, i: usize, other: T) -> T
         ensures found { λ r. ⌜ r ≡ getD (items (now (self .entry))) i other ⌝ }
     {
-        if i < self.len { self.places[i] } else { other }
+        match self.as_slice().get(i) {
+            Some(x) => *x,
+            None => other,
+        }
     }
 
     // Adds an item at the end, and answers true; a full list stays as it is.
@@ -44,12 +47,25 @@ impl<T: Copy, const MAX: usize> Bounded<T, MAX> {
         ensures added { λ _. ⌜ (length (items (now (self .entry))) < MAX → items (now (self .exit)) ≡ items (now (self .entry)) ++ x ∷ []) ⌝ }
         ensures full_unchanged { λ _. ⌜ (MAX ≤ length (items (now (self .entry))) → items (now (self .exit)) ≡ items (now (self .entry))) ⌝ }
     {
-        if self.len >= MAX {
+        if self.is_full() {
             return false;
         }
+        self.append(x);
+        true
+    }
+
+    fn is_full(&self) -> bool
+        ensures { λ r. ⌜ r ≡ leb MAX (length (items (now (self .entry)))) ⌝ }
+    {
+        self.len >= MAX
+    }
+
+    fn append(&mut self, x: T)
+        requires { ⌜ length (items (now self)) < MAX ⌝ }
+        ensures { λ _. ⌜ items (now (self .exit)) ≡ items (now (self .entry)) ++ x ∷ [] ⌝ }
+    {
         self.places[self.len] = x;
         self.len += 1;
-        true
     }
 
     // The items of `s`, if there are not too many; `fill` stands in the places that are left.

@@ -1,20 +1,12 @@
-use mathlib.Core.Path.{_≡_, sym, _∙_}
-use Prim.Native.Nat.{_≤_}
-use native.Mathlib.Omega.{arith}
-use lib.ListN.{length, getD, take}
-use Rattle.std.proofs.shelf.Lists.{getD-take, getD-past, getD-default, length-take-le}
+use mathlib.Core.Path.{_≡_, sym, ap, _∙_}
+use lib.ListN.{length, getD}
+use Rattle.std.proofs.shelf.Lists.{getD-past}
 use Rattle.terms.proofs.bounded.Bounded.get_or.Needs as need
 
-pub returns-then-i-self : need.returns-then-i-self
-returns-then-i-self g c =
-    let b = c .args .self .now in
+pub returns-in-None : need.returns-in-None
+returns-in-None g c =
+    let xs = c .as-slice .result .now in
     record {
-      found = getD-default (b .places) (c .args .i) (c .index-self-i .result) (c .args .other) (omega (arith, b .fits, b .whole))
-          ∙ sym (getD-take (b .len) (b .places) (c .args .i) (c .args .other) (c .if-i-self .taken));
+      found = sym (getD-past xs (c .args .i) (c .args .other) (c .in-None .ensures tt .finds .3))
+          ∙ ap (λ l. getD l (c .args .i) (c .args .other)) (c .as-slice .ensures .shown);
     }
-
-pub returns-else-i-self : need.returns-else-i-self
-returns-else-i-self g c =
-    let b = c .args .self .now in
-    let short : length (take (b .len) (b .places)) ≤ c .args .i = omega (arith, b .fits, b .whole, length-take-le (b .len) (b .places)) in
-    record { found = sym (getD-past (take (b .len) (b .places)) (c .args .i) (c .args .other) short) }
