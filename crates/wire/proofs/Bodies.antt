@@ -13,7 +13,8 @@ use Rattle.std.specs.declared.result.Result.the-variants.{Ok, Err}
 use Rattle.message.specs.declared.tag.Tag.{Tag}
 use Rattle.message.specs.Meanings.{Meaning, write-notice, tag-notice, question, plain-reply, coded-reply}
 use Rattle.terms.specs.Limits.{min-servers, max-servers, last-server, min-objects, max-objects, last-object, max-height, max-count, max-read}
-use Rattle.message.specs.Ranges.{each, between, object-ok, height-ok, read-ok, count-ok, tag-ok, cells-ok, clock-ok, tags-ok, in-range}
+use Rattle.terms.specs.Lists.{each}
+use Rattle.message.specs.Ranges.{between, object-ok, height-ok, read-ok, count-ok, tag-ok, cells-ok, clock-ok, tags-ok, in-range}
 use Rattle.wire.specs.declared.faults.FieldFault.{FieldFault}
 use Rattle.wire.specs.declared.faults.MessageFault.{MessageFault}
 use Rattle.wire.specs.declared.faults.MessageFault.the-variants.{UnknownKind}

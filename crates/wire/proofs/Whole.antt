@@ -16,7 +16,8 @@ use Rattle.std.specs.Joined.{joined}
 use Rattle.message.specs.declared.tag.Tag.{Tag}
 use Rattle.message.specs.Meanings.{Meaning, meaning, write-notice, tag-notice, question, plain-reply, coded-reply}
 use Rattle.terms.specs.Limits.{min-cells, max-cells, min-servers, max-servers, min-objects, max-objects, max-body-bytes}
-use Rattle.message.specs.Ranges.{in-range, each, between, object-ok, height-ok, read-ok, count-ok, tag-ok, cells-ok, clock-ok, tags-ok}
+use Rattle.terms.specs.Lists.{each}
+use Rattle.message.specs.Ranges.{in-range, between, object-ok, height-ok, read-ok, count-ok, tag-ok, cells-ok, clock-ok, tags-ok}
 use Rattle.wire.specs.declared.faults.MarkFault.{MarkFault}
 use Rattle.wire.specs.declared.faults.MarkFault.the-variants as marks
 use Rattle.wire.specs.declared.faults.MessageFault.{MessageFault}

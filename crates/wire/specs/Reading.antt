@@ -11,7 +11,8 @@ use Rattle.std.specs.declared.result.Result.the-variants.{Ok, Err}
 use Rattle.std.specs.Holes.{between as part}
 use Rattle.terms.specs.Limits.{min-cells, max-cells, min-servers, max-servers, min-objects, max-objects, mark-bytes}
 use Rattle.message.specs.Meanings.{Meaning, meaning, write-notice, tag-notice, question, plain-reply, coded-reply}
-use Rattle.message.specs.Ranges.{each, between, object-ok, height-ok, read-ok, tag-ok, clock-ok, tags-ok}
+use Rattle.terms.specs.Lists.{each}
+use Rattle.message.specs.Ranges.{between, object-ok, height-ok, read-ok, tag-ok, clock-ok, tags-ok}
 use Rattle.message.specs.declared.kinds.Message.{Message}
 use Rattle.message.specs.declared.tag.Tag.{Tag}
 use Rattle.wire.specs.declared.cursor.Cursor.{Cursor}

@@ -1,6 +1,6 @@
 use lib.Dec.{eqb}
 use Rattle.std.proofs.shelf.Tests.{eq-eqb, ne-eqb}
-use Rattle.message.proofs.Each.{each-stop, each-next, each-done}
+use Rattle.terms.proofs.Each.{each-stop, each-next, each-done}
 use Rattle.wire.proofs.cursor.fields.zeros.Needs as need
 
 pub returns-then-b-ne0 : need.returns-then-b-ne0
