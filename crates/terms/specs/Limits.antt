@@ -1,5 +1,5 @@
 -- The bounds of a group, as src/limits.rt has them. Assumes nothing.
-use Prim.Native.Nat.{ℕ, _+_, _-_}
+use Prim.Native.Nat.{ℕ, _+_, _-_, _*_}
 
 abbrev pub min-servers : ℕ
 min-servers = 2
@@ -35,6 +35,10 @@ max-count = 1000000
 
 abbrev pub max-read : ℕ
 max-read = 1000000
+
+-- there is a lane from each server to each other
+abbrev pub max-lanes : ℕ
+max-lanes = max-servers * (max-servers - 1)
 
 -- the places of a lane
 abbrev pub min-places : ℕ

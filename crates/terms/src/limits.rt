@@ -27,6 +27,9 @@ pub const MAX_COUNT: u32 = 1_000_000;
 
 pub const MAX_READ: u32 = 1_000_000;
 
+// There is a lane from each server to each other.
+pub const MAX_LANES: usize = MAX_SERVERS * (MAX_SERVERS - 1);
+
 // A lane has 1 to 16 places.
 pub const MIN_PLACES: usize = 1;
 
