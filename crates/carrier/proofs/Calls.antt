@@ -1,12 +1,13 @@
 -- The calls of a carrier of blocks, once a lane's number is found. Assumes nothing.
 use mathlib.Core.Path.{_≡_, refl, sym, ap, subst, _∙_}
-use mathlib.Core.Bool.{true, false, cond}
+use mathlib.Core.Bool.{Bool, true, false, cond, _&&_, not}
 use mathlib.Core.Logic.{⊎-elim}
 use mathlib.Core.List.{List, [], _∷_, _++_, map}
 use Prim.Native.Nat.{ℕ, zero, suc, _+_, _-_, _*_, _<_, _≤_}
 use native.Mathlib.Omega.{arith}
-use lib.ListN.{length, getD, take, drop, set, replicate}
-use Rattle.std.proofs.shelf.Lists.{getD-set-same, getD-set-other, nil-from-length}
+use lib.Dec.{ltb, eqb}
+use lib.ListN.{length, getD, take, drop, set, replicate, length-take}
+use Rattle.std.proofs.shelf.Lists.{getD-set-same, getD-set-other, nil-from-length, length-map}
 use Rattle.std.proofs.shelf.Tests.{cases-eq, cond-true, cond-false, le-ltb, lt-ltb, le-leb, and-from}
 use Rattle.std.specs.declared.option.Option.{Option}
 use Rattle.std.specs.declared.option.Option.the-variants.{Some, None}
@@ -94,6 +95,26 @@ module _ {A : Type 0} (held : A → Meaning) (b : Blocks A) (from to k : ℕ) (a
       (ap (drop (k * b .p + c)) is ∙ above ∙ ap (drop (k * b .p + c)) was)
       (ap (λ l. take (c - 1) (drop (k * b .p) l)) is ∙ moved ∙ ap (λ l. drop 1 (take c (drop (k * b .p) l))) was))
 
+-- the laws of a carrier
+
+short-block : {A : Type 0} (held : A → Meaning) (t : Bool) (c p : ℕ) (l : List A) → c ≤ p → length (cond t (map held (take c l)) []) ≤ p
+short-block held true c p l h = omega (arith, length-map (take c l) held, length-take c l)
+short-block held false c p l h = omega arith
+
+pub bounded : {A : Type 0} (held : A → Meaning) (b : Blocks A) (from to : ℕ) → length (lanes-of held b from to) ≤ b .p
+unfolding lanes-over
+bounded held b from to = short-block held _ _ _ _ (b .within (lane-number (b .n) from to))
+
+no-lane : (a b c : Bool) (x y e : Refusal) → cond (a && b) (cond c (Some x) None) (Some y) ≡ Some e → (a && b && not c) ≡ false
+no-lane true true true x y e is = refl
+no-lane true true false x y e is = absurd (changes.some-none e (sym is))
+no-lane true false c x y e is = refl
+no-lane false b c x y e is = refl
+
+pub nowhere-else : {A : Type 0} (held : A → Meaning) (b : Blocks A) (from to : ℕ) (e : Refusal) → ends-refusal (b .n) from to ≡ Some e → lanes-of held b from to ≡ []
+unfolding lanes-over
+nowhere-else held b from to e is = cond-false _ _ _ (no-lane (ltb from (b .n)) (ltb to (b .n)) (eqb from to) _ _ e is)
+
 -- layout
 
 pub zero-at : (n k : ℕ) → _≡_ {A = ℕ} (getD (replicate n 0) k 0) 0
@@ -101,7 +122,7 @@ zero-at zero k = refl
 zero-at (suc n) zero = refl
 zero-at (suc n) (suc k) = zero-at n k
 
-empty-block : {A : Type 0} (held : A → Meaning) (t : _) (c : ℕ) (l : List A) → c ≡ 0 → cond t (map held (take c l)) [] ≡ []
+empty-block : {A : Type 0} (held : A → Meaning) (t : Bool) (c : ℕ) (l : List A) → c ≡ 0 → cond t (map held (take c l)) [] ≡ []
 empty-block held true c l e = ap (λ k. map held (take k l)) e
 empty-block held false c l e = refl
 

@@ -17,7 +17,7 @@ use Rattle.carrier.specs.Lanes.{Lanes, with-lane, ends-refusal}
 use Rattle.carrier.specs.Blocks.{lane-number, is-lane, block, lanes-over, Found}
 use Rattle.carrier.proofs.Places.{Outside, apart, same-lane}
 
-some-none : {X : Type 0} (x : X) → Some x ≡ None → ⊥
+pub some-none : {X : Type 0} (x : X) → Some x ≡ None → ⊥
 some-none x e = let z : _≡_ {A = ℕ} 0 1 = cc in omega arith
 
 tested : (a b c : Bool) (x y : Refusal) → cond (a && b) (cond c (Some x) None) (Some y) ≡ None → (a && b && not c) ≡ true

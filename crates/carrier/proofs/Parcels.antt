@@ -22,10 +22,8 @@ use Rattle.wire.specs.Placed.{Put, write-refusal, room-refusal}
 use Rattle.wire.specs.Reading.{reading}
 use Rattle.wire.specs.Writing.{encode}
 use Rattle.wire.proofs.Whole.{reading-there, short}
+use Rattle.carrier.proofs.Changes.{some-none}
 use Rattle.carrier.specs.Parcels.{is-record, message-of, message-in}
-
-some-none : {X : Type 0} (x : X) → Some x ≡ None → ⊥
-some-none x e = let z : _≡_ {A = ℕ} 0 1 = cc in omega arith
 
 -- a message in range is refused nowhere in a place of the longest record
 module _ (m : Meaning) (xs ys : List ℕ) (whole : length xs ≡ max-record-bytes) where

@@ -13,10 +13,14 @@ use Rattle.wire.specs.Reading.{reading}
 abbrev pub is-record : List ℕ → Bool
 is-record bytes = isOk (reading bytes)
 
+-- what stands in memory that no message was put into: the tag notice of object 0 with the zero tag
+abbrev pub blank-message : Meaning
+blank-message = tag-notice 0 zero-tag
+
 -- what bytes that are read so hold; those that begin with no record are not put anywhere
 abbrev pub message-of : Result (Meaning × ℕ) MessageFault → Meaning
 message-of (Ok p) = p .0
-message-of (Err f) = tag-notice 0 zero-tag
+message-of (Err f) = blank-message
 
 -- the message that the bytes begin with
 abbrev pub message-in : List ℕ → Meaning

@@ -1,8 +1,10 @@
 // What a carrier is, by the lists in its lanes.
 ghost use mathlib.Core.Path.{_≡_};
-ghost use mathlib.Core.List.{_∷_};
+ghost use mathlib.Core.List.{[], _∷_};
 ghost use Prim.Native.Nat.{ℕ, _≤_};
 ghost use lib.ListN.{length, drop};
+ghost use Rattle.std.specs.declared.option.Option.the-variants.{Some};
+ghost use Rattle.terms.specs.declared.refusal.Refusal.{Refusal};
 ghost use Rattle.terms.specs.Answers.{Answered};
 ghost use Rattle.message.specs.Meanings.{meaning};
 ghost use Rattle.carrier.specs.Lanes.{Lanes, ends-refusal, post-refusal, take-refusal, posted, taken};
@@ -19,6 +21,12 @@ pub trait Carrier {
 
     // the places of a lane
     ghost p: { Self → ℕ };
+
+    // no lane holds more than its places
+    law bounded: { (c : Self) (from to : ℕ) → length (lanes c from to) ≤ p c };
+
+    // there are lanes only between different servers
+    law nowhere_else: { (c : Self) (from to : ℕ) (e : Refusal) → ends-refusal (n c) from to ≡ Some e → lanes c from to ≡ [] };
 
     fn servers(&self) -> usize
         ensures told { λ r. ⌜ r ≡ n (now (self .entry)) ⌝ };

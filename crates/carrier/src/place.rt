@@ -3,6 +3,7 @@ ghost use mathlib.Core.Path.{_≡_};
 ghost use mathlib.Core.Bool.{cond};
 ghost use Rattle.message.specs.Meanings.{Meaning, meaning};
 ghost use Rattle.message.specs.Ranges.{in-range};
+ghost use Rattle.carrier.specs.Parcels.{blank-message};
 use message::kinds::Message;
 use message::tag::Tag;
 
@@ -11,7 +12,8 @@ pub trait Place: Copy {
     ghost held: { Self → Meaning };
 
     // A place to fill memory with.
-    fn blank() -> Self;
+    fn blank() -> Self
+        ensures blank { λ r. ⌜ held r ≡ blank-message ⌝ };
 
     // Puts a message that is within its ranges in the place of what is there; any other leaves it.
     fn put(&mut self, m: &Message) -> bool
