@@ -1,11 +1,15 @@
 // A kind of place: it holds one message.
 ghost use mathlib.Core.Path.{_≡_};
 ghost use mathlib.Core.Bool.{cond};
+ghost use Rattle.std.specs.Of.Vec.{vec-len};
+ghost use Rattle.std.specs.Vec.{made};
 ghost use Rattle.message.specs.Meanings.{Meaning, meaning};
 ghost use Rattle.message.specs.Ranges.{in-range};
 ghost use Rattle.carrier.specs.Parcels.{blank-message};
 use message::kinds::Message;
 use message::tag::Tag;
+use std::alloc::AllocError;
+use std::alloc::Global;
 
 pub trait Place: Copy {
     // the message that the place holds
@@ -46,4 +50,15 @@ pub impl Place for Message as MessagePlace {
     fn message(&self) -> Message {
         *self
     }
+}
+
+// Memory of so many places, to lay a carrier over.
+pub fn blank_places<P: Place>(heap: Global, count: usize) -> Result<Vec<P>, AllocError>
+    ensures as_many { λ r. ⌜ made r (λ v. vec-len v ≡ count) ⌝ }
+{
+    let mut memory = Vec::new(heap);
+    for _i in 0..count {
+        memory.push(P::blank())?;
+    }
+    Ok(memory)
 }
