@@ -9,6 +9,7 @@ use message::kinds::Message;
 use terms::limits::MAX_LANES;
 use terms::refusal::Refusal;
 
+mod calls;
 pub mod carry;
 pub mod layout;
 

@@ -7,8 +7,8 @@ use lib.Dec.{ltb}
 use Rattle.std.proofs.shelf.Bits.{mul-add-lt}
 use Rattle.std.proofs.shelf.Ways.{tells}
 use Rattle.terms.specs.Limits.{max-servers}
-use Rattle.carrier.proofs.blocks.carry.lane_number.Needs.{then-to-from, else-to-from}
-use Rattle.carrier.proofs.blocks.carry.lane_number.Needs as need
+use Rattle.carrier.proofs.blocks.calls.lane_number.Needs.{then-to-from, else-to-from}
+use Rattle.carrier.proofs.blocks.calls.lane_number.Needs as need
 
 pub returns : need.returns
 returns c =

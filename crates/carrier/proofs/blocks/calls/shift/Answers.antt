@@ -2,7 +2,7 @@ use native.Mathlib.Omega.{arith}
 use borrow.Author.Needs.{needs}
 use Rattle.std.proofs.shelf.Parts.{overwrites}
 use Rattle.carrier.proofs.Shift.{shifted}
-use Rattle.carrier.proofs.blocks.carry.shift.Needs as need
+use Rattle.carrier.proofs.blocks.calls.shift.Needs as need
 
 pub returns : need.returns
 returns g c = record {

@@ -1,6 +1,6 @@
 use mathlib.Core.Path.{sym}
 use Rattle.carrier.proofs.Calls.{lane-long}
-use Rattle.carrier.proofs.blocks.carry.BlocksCarrier.len.Needs as need
+use Rattle.carrier.proofs.blocks.Blocks.count.Needs as need
 
 pub returns : need.returns
 returns g c =

@@ -8,7 +8,7 @@ use Rattle.message.specs.Meanings.{meaning}
 use Rattle.message.specs.Ranges.{in-range}
 use Rattle.carrier.specs.Blocks.{lanes-of}
 use Rattle.carrier.proofs.Calls.{inside, known, full, out-of-range, may-post, added, left, within-set}
-use Rattle.carrier.proofs.blocks.carry.BlocksCarrier.post.Needs as need
+use Rattle.carrier.proofs.blocks.Blocks.add.Needs as need
 
 pub returns-then-count-self : need.returns-then-count-self
 returns-then-count-self g c =

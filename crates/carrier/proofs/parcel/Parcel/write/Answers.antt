@@ -1,7 +1,7 @@
 use mathlib.Core.Path.{_≡_, _∙_}
 use Rattle.message.specs.Meanings.{meaning}
 use Rattle.carrier.proofs.Parcels.{put-after}
-use Rattle.carrier.proofs.parcel.bytes.ParcelPlace.put.Needs as need
+use Rattle.carrier.proofs.parcel.Parcel.write.Needs as need
 
 pub ghost-self : need.ghost-self
 ghost-self c =

@@ -1,6 +1,6 @@
 use native.Mathlib.Omega.{arith}
 use Rattle.carrier.proofs.Calls.{inside, empty, front, may-take}
-use Rattle.carrier.proofs.blocks.carry.BlocksCarrier.first.Needs as need
+use Rattle.carrier.proofs.blocks.Blocks.oldest.Needs as need
 
 pub returns-then-self-k-eq0 : need.returns-then-self-k-eq0
 returns-then-self-k-eq0 g c =

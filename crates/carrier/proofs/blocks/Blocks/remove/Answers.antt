@@ -4,7 +4,7 @@ use native.Mathlib.Omega.{arith}
 use lib.ListN.{length, getD, length-set}
 use Rattle.std.proofs.shelf.Lists.{refilled-is}
 use Rattle.carrier.proofs.Calls.{inside, known, empty, front, may-take, removed, left, within-set}
-use Rattle.carrier.proofs.blocks.carry.BlocksCarrier.take.Needs as need
+use Rattle.carrier.proofs.blocks.Blocks.remove.Needs as need
 
 pub returns-then-count-eq0 : need.returns-then-count-eq0
 returns-then-count-eq0 g c =
