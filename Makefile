@@ -3,8 +3,7 @@
 .PHONY: run test
 
 run:
-	@rt check funds > target-run.log 2>&1 || { cat target-run.log; rm -f target-run.log; exit 1; }
-	@rm -f target-run.log
+	@mkdir -p target; rt check funds > target/run.log 2>&1 || { cat target/run.log; exit 1; }
 	@target/bin/funds
 
 test:

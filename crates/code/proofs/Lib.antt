@@ -1,0 +1,7 @@
+pub mod Cellwise
+pub mod Choosing
+pub mod Everyone
+pub mod Known
+pub mod Sizes
+pub mod Turning
+pub mod Valued

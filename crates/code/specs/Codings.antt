@@ -1,13 +1,13 @@
 -- What a code is, and what it makes of the objects' values. Assumes nothing.
 use mathlib.Core.Path.{_≡_}
-use mathlib.Core.Bool.{Bool, not}
-use mathlib.Core.List.{List}
+use mathlib.Core.Bool.{Bool, cond, not}
+use mathlib.Core.List.{List, []}
 use Prim.Native.Nat.{ℕ, _<_}
 use lib.Dec.{eqb}
 use lib.ListN.{length, getD}
 use Rattle.terms.specs.Lists.{listed}
 use Rattle.field.specs.Arithmetic.{Arithmetic}
-use Rattle.code.specs.Sums.{dot}
+use Rattle.field.specs.Sums.{dot}
 
 -- A code: a field's operations, how many servers, objects and cells there are, and the coefficient of each server and object.
 pub record Coding : Type 0 where
@@ -25,6 +25,14 @@ pub record Value (g : Coding) (v : List ℕ) : Type 0 where
 -- a value for each object
 abbrev pub Values : Coding → (ℕ → List ℕ) → Type 0
 Values g v = (x : ℕ) → x < g .objects → Value g (v x)
+
+-- the value at x of a list of values
+abbrev pub value-at : List (List ℕ) → ℕ → List ℕ
+value-at vs x = getD vs x []
+
+-- the values v, with another one for the object x
+abbrev pub replaced : (ℕ → List ℕ) → ℕ → List ℕ → ℕ → List ℕ
+replaced v x new y = cond (eqb y x) new (v y)
 
 -- a server contains an object if its coefficient there is not 0
 abbrev pub contains : Coding → ℕ → ℕ → Bool
@@ -47,3 +55,8 @@ re-encoded-cell g s x cell old new =
 -- a symbol of the server s, where the value of the object x turns from old to new
 abbrev pub re-encoded : Coding → ℕ → ℕ → List ℕ → List ℕ → List ℕ → List ℕ
 re-encoded g s x symbol old new = listed (g .cells) (λ c. re-encoded-cell g s x (getD symbol c 0) (getD old c 0) (getD new c 0))
+
+-- `turned` is the symbol of the server s after the value of the object x turned from old to new, whatever the values of the other objects
+abbrev pub Turned : Coding → ℕ → ℕ → List ℕ → List ℕ → List ℕ → List ℕ → Type 0
+Turned g s x before old new turned =
+    (v : ℕ → List ℕ) → Values g v → before ≡ symbol g s v → v x ≡ old → turned ≡ symbol g s (replaced v x new)

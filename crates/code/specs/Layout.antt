@@ -2,7 +2,7 @@
 use mathlib.Core.Path.{_≡_}
 use mathlib.Core.Bool.{Bool, true, false, cond, _&&_, not}
 use mathlib.Core.Logic.{_⊎_}
-use mathlib.Core.List.{List, [], _∷_}
+use mathlib.Core.List.{List}
 use Prim.Native.Nat.{ℕ, _+_, _*_, _<_, _≤_}
 use lib.Dec.{eqb, leb, ltb}
 use lib.ListN.{length, getD}
@@ -11,6 +11,7 @@ use Rattle.std.specs.declared.option.Option.the-variants.{Some, None}
 use Rattle.terms.specs.declared.refusal.Refusal.{Refusal}
 use Rattle.terms.specs.declared.refusal.Refusal.the-variants.{ServersOutOfBounds, ObjectsOutOfBounds, CellsOutOfBounds, NoTable, ObjectNotRecovered}
 use Rattle.terms.specs.Limits.{min-servers, max-servers, max-objects, max-cells}
+use Rattle.terms.specs.Lists.{each}
 use Rattle.field.specs.Arithmetic.{Arithmetic}
 use Rattle.code.specs.Codings.{Coding}
 use Rattle.code.specs.Recovery.{Recovers}
@@ -48,8 +49,11 @@ within least most n = leb least n && leb n most
 
 -- each number of the list is an element
 abbrev pub all-elements : ℕ → List ℕ → Bool
-all-elements q [] = true
-all-elements q (x ∷ xs) = ltb x q && all-elements q xs
+all-elements q xs = each (λ x. ltb x q) xs
+
+-- n rows of k elements
+abbrev pub is-table : ℕ → ℕ → ℕ → List ℕ → Bool
+is-table q n k table = eqb (length table) (n * k) && all-elements q table
 
 -- the first bound that the sizes or the table break
 abbrev pub size-refusal : ℕ → ℕ → ℕ → ℕ → List ℕ → Option Refusal
@@ -57,7 +61,7 @@ size-refusal q n k w table =
     cond (within min-servers max-servers n)
     (cond (within 1 max-objects k)
     (cond (within 1 max-cells w)
-    (cond (eqb (length table) (n * k) && all-elements q table)
+    (cond (is-table q n k table)
     None
     (Some NoTable))
     (Some CellsOutOfBounds))

@@ -1,3 +1,4 @@
+pub mod Algebra
 pub mod Computed
 pub mod Totals
 pub mod Residues

@@ -2,3 +2,4 @@
 pub mod gf256;
 pub mod interface;
 pub mod mod251;
+mod tables;

@@ -1,21 +1,17 @@
 -- The ranges of a message's parts, as tests. Assumes nothing.
-use mathlib.Core.Bool.{Bool, true, _&&_, _||_}
-use mathlib.Core.List.{List, [], _∷_}
+use mathlib.Core.Bool.{Bool, _&&_, _||_}
+use mathlib.Core.List.{List}
 use Prim.Native.Nat.{ℕ}
 use lib.Dec.{leb, eqb}
 use lib.ListN.{length}
 use Rattle.terms.specs.Limits.{min-servers, max-servers, last-server, min-objects, max-objects, last-object, min-cells, max-cells, max-height, max-count, max-read}
+use Rattle.terms.specs.Lists.{each}
 use Rattle.message.specs.declared.tag.Tag.{Tag}
 use Rattle.message.specs.Meanings.{Meaning, write-notice, tag-notice, question, plain-reply, coded-reply}
 
 -- low ≤ n ≤ high
 abbrev pub between : ℕ → ℕ → ℕ → Bool
 between low high n = leb low n && leb n high
-
--- each item passes the test
-abbrev pub each : {A : Type 0} → (A → Bool) → List A → Bool
-each p [] = true
-each p (x ∷ xs) = p x && each p xs
 
 -- numbers
 

@@ -2,8 +2,9 @@
 ghost use mathlib.Core.Path.{_≡_};
 ghost use mathlib.Core.Bool.{Bool};
 ghost use Rattle.terms.specs.Items.{items};
+ghost use Rattle.terms.specs.Lists.{each};
 ghost use Rattle.message.specs.Meanings.{meaning};
-ghost use Rattle.message.specs.Ranges.{between, each, count-ok, tag-ok, cells-ok, clock-ok, tags-ok, in-range};
+ghost use Rattle.message.specs.Ranges.{between, count-ok, tag-ok, cells-ok, clock-ok, tags-ok, in-range};
 use crate::kinds::*;
 use crate::tag::Tag;
 use terms::bounded::Cells;

@@ -1,0 +1,5 @@
+pub mod Each
+pub mod Every
+pub mod Listed
+pub mod Members
+pub mod Tests

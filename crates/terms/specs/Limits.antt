@@ -1,5 +1,5 @@
 -- The bounds of a group, as src/limits.rt has them. Assumes nothing.
-use Prim.Native.Nat.{ℕ, _+_, _-_}
+use Prim.Native.Nat.{ℕ, _+_, _-_, _*_}
 
 abbrev pub min-servers : ℕ
 min-servers = 2
@@ -45,6 +45,10 @@ max-waiting = 32
 
 abbrev pub max-client-reads : ℕ
 max-client-reads = 8
+
+-- there is a lane from each server to each other
+abbrev pub max-lanes : ℕ
+max-lanes = max-servers * (max-servers - 1)
 
 -- the places of a lane
 abbrev pub min-places : ℕ

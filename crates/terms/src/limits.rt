@@ -13,6 +13,8 @@ pub const MIN_CELLS: usize = 1;
 
 pub const MAX_CELLS: usize = 16;
 
+// A code's table has a row of coefficients for each server.
+pub const MAX_TABLE: usize = 36;
 // Servers and objects are numbered from 0.
 pub const LAST_SERVER: u32 = (MAX_SERVERS - 1) as u32;
 
@@ -31,6 +33,9 @@ pub const MAX_ENTRIES: usize = 64;
 pub const MAX_WAITING: usize = 32;
 
 pub const MAX_CLIENT_READS: usize = 8;
+
+// There is a lane from each server to each other.
+pub const MAX_LANES: usize = MAX_SERVERS * (MAX_SERVERS - 1);
 
 // A lane has 1 to 16 places.
 pub const MIN_PLACES: usize = 1;

@@ -1,6 +1,7 @@
 // Why a call is refused. A refusal changes nothing.
 ghost use mathlib.Core.Path.{_≡_};
 ghost use Rattle.terms.specs.Refusals.{number-of};
+use std::error::Error;
 use std::fmt;
 
 #[derive(Clone, Copy, PartialEq, Eq, Debug)]
@@ -95,3 +96,5 @@ fn cause(r: Refusal) -> &'static str {
         Refusal::PlaceTooShort => "the place for writing is too short",
     }
 }
+
+pub impl Error for Refusal as RefusalError {}

@@ -1,7 +1,7 @@
 use mathlib.Core.Path.{_≡_, sym, ap, _∙_}
 use mathlib.Core.Bool.{Bool, true, false}
 use lib.ListN.{getD}
-use Rattle.message.proofs.Each.{each-stop, each-next, each-done}
+use Rattle.terms.proofs.Each.{each-stop, each-next, each-done}
 use Rattle.message.proofs.ranges.each_in_range.Needs as need
 
 pub returns-then-not-is-in-range : need.returns-then-not-is-in-range

@@ -1,6 +1,6 @@
 use mathlib.Core.Path.{_≡_}
 use lib.ListN.{drop}
-use Rattle.message.specs.Ranges.{each}
+use Rattle.terms.specs.Lists.{each}
 use Rattle.message.proofs.ranges.each_in_range.Given as given
 
 abbrev pub Inv-loop-x : given.InvT-loop-x

@@ -1,10 +1,8 @@
-use mathlib.Core.Path.{_≡_, sym, ap, _∙_}
+use mathlib.Core.Path.{_≡_, sym}
 use mathlib.Core.Logic.{_⊎_, inl, inr}
 use Prim.Native.Nat.{ℕ, _<_}
 use borrow.Author.Needs.{needs}
-use Rattle.field.specs.Binary.{multiply}
-use Rattle.field.proofs.Totals.{in₂}
-use Rattle.field.proofs.Polynomials.{zero-product, by-logarithms}
+use Rattle.field.proofs.Polynomials.{zero-product}
 use Rattle.field.proofs.gf256.Gf256Field.mul.Needs as need
 
 pub returns-then-y-eq0 : need.returns-then-y-eq0
@@ -15,13 +13,3 @@ returns-then-y-eq0 c =
     let k : y < 256 = search needs in
     let zero : (x ≡ 0) ⊎ (y ≡ 0) = elim (c .if-y-eq0 .either) [ inl e ↦ inl e | inr e ↦ inr (e .1) ] in
     record { product = sym (zero-product x y h k zero) }
-
-pub returns-else-y-eq0 : need.returns-else-y-eq0
-returns-else-y-eq0 c =
-    let x = c .args .x in
-    let y = c .args .y in
-    let h : x < 256 = search needs in
-    let k : y < 256 = search needs in
-    let l = c .logarithm .result in
-    let m = c .logarithm-else-y-eq0 .result in
-    record { product = c .power .ensures ∙ sym (in₂ 256 multiply x y h k ∙ by-logarithms l m x y (c .logarithm .ensures .1) (c .logarithm-else-y-eq0 .ensures .1) k) }
