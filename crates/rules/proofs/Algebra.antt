@@ -15,7 +15,7 @@ use Rattle.rules.proofs.RankedWords.{upd, listed, every, some, seek, lowest, L
 use mathlib.Core.Path.{ap₂}
 use Rattle.std.proofs.shelf.Counted.{getD-map-counting, length-map-counting, fill-by-all}
 use Rattle.rules.proofs.Ranked.{Code, field-of, coding-of, Entry, same-entry, enters, holds, entered-value, kept, zeros, swap}
-use Rattle.code.specs.Sums.{sum}
+use Rattle.field.specs.Sums.{sum}
 use Rattle.code.specs.Codings.{combination, symbol}
 use Rattle.rules.proofs.RankedLaw.{mix, Lawful}
 use Rattle.rules.proofs.Words.{upd-same, upd-other, enters-push}

@@ -11,7 +11,8 @@ use Rattle.std.proofs.shelf.Ways.{tells}
 use Rattle.std.proofs.shelf.Tests.{le-leb, and-parts, and-from, lt-ltb, eq-eqb, ltb-true}
 use Rattle.terms.specs.Limits.{max-height, last-server}
 use Rattle.message.specs.declared.tag.Tag as declared
-use Rattle.message.specs.Ranges.{tag-ok, tags-ok, cells-ok, read-ok, each}
+use Rattle.message.specs.Ranges.{tag-ok, tags-ok, cells-ok, read-ok}
+use Rattle.terms.specs.Lists.{each}
 use Rattle.rules.proofs.Words.{every-from}
 use Rattle.rules.specs.Delivering as rule
 use Rattle.rules.proofs.RankedMessages.{Message, Written, Tagged, Question, Plain, Coded, tag}

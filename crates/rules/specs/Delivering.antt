@@ -7,13 +7,13 @@ use lib.ListN.{length, getD}
 use Rattle.std.specs.declared.option.Option.{Option}
 use Rattle.std.specs.declared.option.Option.the-variants.{None, Some}
 use Rattle.terms.specs.Limits.{max-client-reads, max-waiting}
-use Rattle.terms.specs.Lists.{listed}
+use Rattle.terms.specs.Lists.{listed, each}
 use Rattle.terms.specs.declared.refusal.Refusal.{Refusal}
 use Rattle.terms.specs.declared.refusal.Refusal.the-variants.{NoSuchServer, EqualEnds, LaneEmpty, HistoryFull, LaneFull, WaitingFull}
 use Rattle.message.specs.declared.tag.Tag.{Tag}
 use Rattle.message.specs.Tags.{zero-tag, same}
 use Rattle.message.specs.Meanings.{Meaning, write-notice, tag-notice, question, plain-reply, coded-reply}
-use Rattle.message.specs.Ranges.{in-range, each}
+use Rattle.message.specs.Ranges.{in-range}
 use Rattle.code.specs.Codings.{contains, re-encoded}
 use Rattle.rules.specs.Words.{upd, first-below}
 use Rattle.rules.specs.Lanes.{posted, taken}
