@@ -44,3 +44,4 @@ pub mod Overtaking
 pub mod Replying
 pub mod FollowSteps
 pub mod Standing
+pub mod Figures

@@ -11,3 +11,4 @@ pub mod Delivering
 pub mod Runs
 pub mod Events
 pub mod Law
+pub mod Figures
