@@ -1,24 +1,19 @@
 -- Sums over a field's elements, and symbols by one value more or less.
-use mathlib.Core.Path.{_≡_, refl, sym, ap, _∙_, subst}
-use mathlib.Core.List.{List, [], _∷_, _++_}
-use mathlib.Core.Bool.{Bool, true, false, cond, _&&_, _||_, not}
+use mathlib.Core.Path.{_≡_, refl, sym, ap, _∙_, ap₂}
+use mathlib.Core.List.{List, []}
 use mathlib.Core.Logic.{_⊎_, inl, inr, ⊎-elim}
-use Prim.Native.Nat.{ℕ, zero, suc, _+_, _<_, _≤_, min, max}
+use Prim.Native.Nat.{ℕ, zero, suc, _<_}
 use native.Mathlib.Omega.{arith}
-use lib.Dec.{eqb, ltb, leb}
-use lib.ListN.{getD, length, drop}
-use Rattle.std.specs.shelf.Lists.{kept-by}
-use Rattle.std.proofs.shelf.Ways.{tells}
-use Rattle.std.proofs.shelf.Tests.{both-ways, cases-bool, cases-eq, cases-order, cases-lt, eq-eqb, ne-eqb, eqb-true, eqb-false, ltb-true, ltb-false, leb-true, leb-false, lt-ltb, and-parts, and-from, and-cases, or-cases, or-parts, or-left, or-right, not-true, not-false, cond-both, cond-true, cond-false}
-use Rattle.rules.proofs.RankedMessages.{Message, Written, Tagged, Question, Plain, Coded, tag}
-use Rattle.rules.proofs.RankedWords.{upd, listed, every, some, seek, lowest, Lanes, posted, spread, taken, free}
-use mathlib.Core.Path.{ap₂}
+use lib.Dec.{eqb}
+use lib.ListN.{getD, length}
+use Rattle.std.proofs.shelf.Tests.{cases-bool, cases-eq}
+use Rattle.rules.proofs.RankedWords.{upd}
 use Rattle.std.proofs.shelf.Counted.{getD-map-counting, length-map-counting, fill-by-all}
-use Rattle.rules.proofs.Ranked.{Code, field-of, coding-of, Entry, same-entry, enters, holds, entered-value, kept, zeros, swap}
+use Rattle.rules.proofs.Ranked.{Code, field-of, coding-of, Entry, entered-value, kept, zeros, swap}
 use Rattle.field.specs.Sums.{sum}
 use Rattle.code.specs.Codings.{combination, symbol}
-use Rattle.rules.proofs.RankedLaw.{mix, Lawful}
-use Rattle.rules.proofs.Words.{upd-same, upd-other, enters-push}
+use Rattle.rules.proofs.RankedFacts.{mix, Lawful}
+use Rattle.rules.proofs.Words.{upd-same, upd-other}
 
 module _ (g : Code) (R : Lawful g) where
   zero-below : 0 < g .q

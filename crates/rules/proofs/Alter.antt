@@ -1,14 +1,14 @@
 -- More is held, reads are opened and closed: lanes, own and told tags stay.
-use mathlib.Core.Path.{_≡_, refl, sym, ap, _∙_, subst}
-use mathlib.Core.List.{List, [], _∷_, _++_}
-use mathlib.Core.Bool.{Bool, true, false, cond}
+use mathlib.Core.Path.{_≡_, refl, sym, _∙_}
+use mathlib.Core.List.{List}
+use mathlib.Core.Bool.{Bool, true, false}
 use mathlib.Core.Logic.{_⊎_, inl, inr, ⊎-elim}
-use Prim.Native.Nat.{ℕ, zero, suc, _+_, _<_, _≤_}
+use Prim.Native.Nat.{ℕ, _<_, _≤_}
 use native.Mathlib.Omega.{arith}
 use lib.ListN.{getD}
-use Rattle.std.proofs.shelf.Tests.{both-ways, cases-bool}
+use Rattle.std.proofs.shelf.Tests.{both-ways}
 use Rattle.rules.proofs.RankedMessages.{Message, Written, Tagged, Question, Plain, Coded}
-use Rattle.rules.proofs.Core.{Core, heard, after, Chain, On, Kept, Asked, Mends, Replied, Good, Sound}
+use Rattle.rules.proofs.Core.{Core, Kept, Asked, Mends, Replied, Good, Sound}
 
 -- what is not held now was not held
 pub unheld : (p q : Bool) → (p ≡ true → q ≡ true) → q ≡ false → p ≡ false

@@ -1,13 +1,12 @@
 -- The worked run, by computation.
-use mathlib.Core.Path.{_≡_, refl, sym, ap, _∙_, subst}
-use mathlib.Core.Bool.{Bool, true, false, cond}
-use mathlib.Core.List.{List, [], _∷_, map}
+use mathlib.Core.Path.{_≡_, refl, sym, subst}
+use mathlib.Core.Bool.{false, cond}
+use mathlib.Core.List.{List, [], _∷_}
 use Prim.Native.Nat.{ℕ, zero, suc, _<_}
 use native.Mathlib.Omega.{arith}
 use lib.Dec.{eqb}
 use lib.ListN.{getD, take}
-use Rattle.std.proofs.shelf.Tests.{cond-both, eqb-true, both-ways, cases-eq}
-use mathlib.Core.Logic.{inl, inr}
+use Rattle.std.proofs.shelf.Tests.{cond-both, eqb-true, both-ways}
 use Rattle.message.specs.Meanings.{Meaning, write-notice}
 use Rattle.field.specs.Sums.{sum}
 use Rattle.code.specs.Codings.{Value, symbol}
@@ -15,7 +14,7 @@ use Rattle.code.specs.Recovery.{Recovers}
 use Rattle.rules.specs.Words.{upd, every, some, first-below}
 use Rattle.rules.specs.Lanes.{posted, spread, taken}
 use Rattle.rules.specs.Histories.{has-entry, entered-value, value-under, highest}
-use Rattle.rules.specs.State.{Server, State, new-group}
+use Rattle.rules.specs.State.{Server, new-group}
 use Rattle.rules.specs.Updates.{entered, counted, queued, sifted, reading, hearing, moved, opening, overtaken}
 use Rattle.rules.specs.Writing.{write-done, write-refusal, write, next-ready, apply-done, apply}
 use Rattle.rules.specs.Reading.{open-done, open-read, read-refusal, read-found, read, collect-done, collect}

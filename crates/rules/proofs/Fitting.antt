@@ -1,25 +1,24 @@
 -- Messages of a run fit the group.
-use mathlib.Core.Path.{_≡_, refl, sym, ap, _∙_, subst}
-use mathlib.Core.List.{List, [], _∷_, _++_, map}
-use mathlib.Core.Bool.{Bool, true, false, cond, _&&_, _||_, not}
-use Prim.Native.Nat.{ℕ, zero, suc, _+_, _*_, _/_, _%_, _<_, _≤_}
+use mathlib.Core.Path.{_≡_, refl, _∙_}
+use mathlib.Core.List.{List, [], _∷_, map}
+use mathlib.Core.Bool.{Bool, true, _&&_, _||_}
+use Prim.Native.Nat.{ℕ, suc, _/_, _%_, _<_, _≤_}
 use native.Mathlib.Omega.{arith}
 use lib.Dec.{eqb, ltb, leb}
 use lib.ListN.{getD, length, length-map}
-use Rattle.std.specs.shelf.Lists.{All}
 use Rattle.std.proofs.shelf.Ways.{tells}
-use Rattle.std.proofs.shelf.Tests.{le-leb, and-parts, and-from, lt-ltb, eq-eqb, ltb-true}
-use Rattle.terms.specs.Limits.{max-height, last-server}
+use Rattle.std.proofs.shelf.Tests.{le-leb, and-parts, and-from, lt-ltb, eq-eqb}
+use Rattle.terms.specs.Limits.{max-height}
 use Rattle.message.specs.declared.tag.Tag as declared
 use Rattle.message.specs.Ranges.{tag-ok, tags-ok, cells-ok, read-ok}
 use Rattle.terms.specs.Lists.{each}
 use Rattle.rules.proofs.Words.{every-from}
 use Rattle.rules.specs.Delivering as rule
-use Rattle.rules.proofs.RankedMessages.{Message, Written, Tagged, Question, Plain, Coded, tag}
+use Rattle.rules.proofs.RankedMessages.{Tagged, Plain, Coded}
 use Rattle.rules.proofs.Unranked.{tag-at}
 use Rattle.rules.proofs.Ranked.{Code, layout-of}
 use Rattle.rules.proofs.RankedSteps.{tag-fits, fits}
-use Rattle.rules.proofs.RankedLaw.{Lawful}
+use Rattle.rules.proofs.RankedFacts.{Lawful}
 
 -- a rank that fits is that of a tag within its ranges
 pub tag-ok-at : (n t : ℕ) → n ≤ 6 → (leb (t / 6) max-height && (ltb (t % 6) n && (ltb 0 (t / 6) || eqb (t % 6) 0))) ≡ true → tag-ok (tag-at t) ≡ true

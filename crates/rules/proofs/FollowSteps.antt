@@ -1,32 +1,29 @@
 -- Over each call, the reads that the events tell of stay joined to the places of every server.
 use mathlib.Core.Path.{_≡_, refl, sym, ap, ap₂, _∙_, subst, fun-ext}
 use mathlib.Core.List.{List, [], _∷_, _++_, map, append-nil}
-use mathlib.Core.Bool.{Bool, true, false, cond, _&&_, _||_, not}
+use mathlib.Core.Bool.{Bool, true, false, cond, _&&_, not}
 use mathlib.Core.Logic.{_⊎_, inl, inr, ⊎-elim}
-use Prim.Native.Nat.{ℕ, zero, suc, _+_, _-_, _*_, _/_, _%_, _<_, _≤_, max}
+use Prim.Native.Nat.{ℕ, zero, suc, _+_, _-_, _/_, _<_, _≤_}
 use native.Mathlib.Omega.{arith}
-use lib.Dec.{eqb, ltb, leb}
+use lib.Dec.{eqb, ltb}
 use lib.ListN.{getD, length}
 use Rattle.std.specs.shelf.Lists.{All}
-use Rattle.std.specs.declared.option.Option.{Option}
-use Rattle.std.specs.declared.option.Option.the-variants.{None, Some}
+use Rattle.std.specs.declared.option.Option.the-variants.{Some}
 use Rattle.std.proofs.shelf.Ways.{tells as ways}
-use Rattle.std.proofs.shelf.Tests.{cases-bool, cases-eq, both-ways, and-parts, and-from, and-right, and-left, and-cases, or-cases, or-right, or-from, lt-ltb, ltb-true, ltb-false, eq-eqb, ne-eqb, eqb-true, cond-true, cond-false, cond-both}
+use Rattle.std.proofs.shelf.Tests.{cases-bool, cases-eq, both-ways, and-parts, and-from, and-right, and-left, or-cases, or-right, or-from, lt-ltb, ltb-true, ltb-false, eq-eqb, ne-eqb, eqb-true, cond-true, cond-false, cond-both}
 use Rattle.std.proofs.shelf.Elements.{all-weaker}
-use Rattle.message.specs.Meanings.{Meaning}
 use Rattle.rules.specs.Words.{upd}
-use Rattle.rules.specs.Turns as turns
 use Rattle.rules.specs.Turns.{Call, Write, Read as Ask, Collect, Deliver, Apply, Encode, Sweep, Found}
 use Rattle.rules.specs.Events as told
-use Rattle.rules.specs.Events.{Event, Followed, just-opened, follow-all, follow-call, follow-write, follow-deliver, opened-by, opened-read, reads-of, replies-to, first-of}
+use Rattle.rules.specs.Events.{Event, Followed, just-opened, follow-all, follow-write, opened-by, opened-read, reads-of, replies-to, first-of}
 use Rattle.rules.proofs.RankedMessages.{Message, Written, Tagged, Question, Plain, Coded, tag}
 use Rattle.rules.proofs.Unranked.{tag-at, message-at}
-use Rattle.rules.proofs.RankedWords.{Lanes, spread, listed, seek}
+use Rattle.rules.proofs.RankedWords.{Lanes, seek}
 use Rattle.rules.proofs.Ranked.{Code, layout-of, Entry, Waiting, Read, Server, State, holds, enters, same-entry, kept, top-tag, is-open, no-read, clients, slots, queue, most-reads}
 use Rattle.rules.proofs.RankedSteps as Steps
-use Rattle.rules.proofs.RankedSteps.{Answer, Refused, Tag, Value, Number, Still, Nothing, Outcome, Count, Turn, turn, Picked, check, unless, write-refusal, write-tag, write-done, apply-done, wait-tag, picked, open-refusal, free-slot, open-done, opening, new-read, collect-done, sweep-done, move-done, enter-done, moved, sifted, entered, counted, queued, reading, overtaken, take-done, question-done, reply, settle, client-answer, internal-answer, history-room, answered, in-hand, open-slot, mendable, mended, got, oldest, deliver, lane-refusal, fits, step, tag-fits, room}
-use Rattle.rules.proofs.RankedLaw as law
-use Rattle.rules.proofs.RankedLaw.{best, Lawful}
+use Rattle.rules.proofs.RankedSteps.{Answer, Refused, Tag, Value, Number, Still, Nothing, Outcome, Count, Turn, turn, Picked, check, unless, write-refusal, write-tag, write-done, apply-done, picked, open-refusal, free-slot, open-done, opening, new-read, collect-done, sweep-done, move-done, enter-done, moved, sifted, entered, counted, queued, reading, overtaken, take-done, question-done, reply, settle, client-answer, internal-answer, history-room, answered, in-hand, open-slot, mendable, mended, got, oldest, deliver, lane-refusal, fits, step, tag-fits}
+use Rattle.rules.proofs.RankedFacts as law
+use Rattle.rules.proofs.RankedFacts.{best, Lawful}
 use Rattle.rules.proofs.Words.{upd-same, upd-other, seek-found, enters-push}
 use Rattle.rules.proofs.Calls.{unless-both, checked}
 use Rattle.rules.proofs.Deliver.{lane-ends, open-found, mends}
@@ -43,7 +40,7 @@ use Rattle.rules.proofs.Fitting.{plain-fits, coded-fits}
 use Rattle.rules.proofs.View.{state-at, answer-at}
 use Rattle.rules.proofs.Told.{Tells, tells-push}
 use Rattle.rules.proofs.Heights.{Heights, Proper}
-use Rattle.rules.proofs.Following.{all-same, at, live, Linked, Answers, Follows, Moves, stays, gone, Idle, follows-change, follows-open}
+use Rattle.rules.proofs.Following.{all-same, at, live, Follows, stays, follows-change, follows-open}
 use Rattle.rules.proofs.Overtaking.{relink, best-less, overtake-follows}
 use Rattle.rules.proofs.Replying.{none-follows, hand-follows, internal-follows, client-follows}
 

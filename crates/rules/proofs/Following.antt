@@ -1,19 +1,17 @@
 -- The reads that the events tell of, and the places of a server: what joins them, and how it is kept.
 use mathlib.Core.Path.{_≡_, refl, sym, ap, ap₂, _∙_, subst}
 use mathlib.Core.List.{List, [], _∷_, _++_, append-nil, append-assoc}
-use mathlib.Core.Bool.{Bool, true, false, cond, _&&_, _||_, not}
+use mathlib.Core.Bool.{Bool, true, false, _&&_, _||_}
 use mathlib.Core.Logic.{_⊎_, inl, inr, ⊎-elim}
 use Prim.Native.Nat.{ℕ, zero, suc, _+_, _<_, _≤_}
 use native.Mathlib.Omega.{arith}
-use lib.Dec.{eqb, ltb, leb}
+use lib.Dec.{eqb, ltb}
 use lib.ListN.{getD, length}
-use Rattle.std.proofs.shelf.Tests.{cases-bool, cases-eq, cases-lt, both-ways, and-parts, and-from, and-right, lt-ltb, ltb-true, eq-eqb, ne-eqb}
+use Rattle.std.proofs.shelf.Tests.{cases-bool, cases-eq, cases-lt, both-ways, and-parts, and-from, lt-ltb, eq-eqb}
 use Rattle.std.proofs.shelf.Lists.{getD-append-left, getD-push, length-push}
-use Rattle.message.specs.declared.tag.Tag as declared
 use Rattle.rules.specs.Words.{upd}
 use Rattle.rules.specs.State.{Layout}
 use Rattle.rules.specs.Law.{with-own}
-use Rattle.rules.specs.Events as told
 use Rattle.rules.specs.Events.{Event, Followed, just-opened, follow-call, follow-all, follow, reads-of, opened-by}
 use Rattle.rules.proofs.Unranked.{tag-at}
 use Rattle.rules.proofs.Ranked.{Read, is-open, no-read, clients, slots, most-reads}

@@ -1,24 +1,23 @@
 -- The parts of a step as changes of the core.
-use mathlib.Core.Path.{_≡_, refl, sym, ap, _∙_, subst}
+use mathlib.Core.Path.{_≡_, refl, sym, ap, _∙_}
 use mathlib.Core.List.{List, [], _∷_, _++_}
-use mathlib.Core.Bool.{Bool, true, false, cond, _&&_, _||_, not}
-use mathlib.Core.Logic.{_⊎_, inl, inr, ⊎-elim}
-use Prim.Native.Nat.{ℕ, zero, suc, _+_, _<_, _≤_, min, max}
+use mathlib.Core.Bool.{true, _&&_, not}
+use mathlib.Core.Logic.{_⊎_, inl, inr}
+use Prim.Native.Nat.{ℕ, _+_, _<_, _≤_}
 use native.Mathlib.Omega.{arith}
-use lib.Dec.{eqb, ltb, leb}
-use lib.ListN.{getD, length, drop}
-use Rattle.std.specs.shelf.Lists.{kept-by}
+use lib.Dec.{eqb, ltb}
+use lib.ListN.{drop}
 use Rattle.std.proofs.shelf.Ways.{tells}
-use Rattle.std.proofs.shelf.Tests.{both-ways, cases-bool, cases-eq, cases-order, cases-lt, eq-eqb, ne-eqb, eqb-true, eqb-false, ltb-true, ltb-false, leb-true, leb-false, lt-ltb, and-parts, and-from, and-cases, or-cases, or-parts, or-left, or-right, not-true, not-false, cond-both, cond-true, cond-false}
-use Rattle.rules.proofs.RankedMessages.{Message, Written, Tagged, Question, Plain, Coded, tag}
-use Rattle.rules.proofs.RankedWords.{upd, listed, every, some, seek, lowest, Lanes, posted, spread, taken, free}
-use Rattle.rules.proofs.Core.{Core, heard, Good, Sound}
-use Rattle.rules.proofs.Ranked.{Code, Entry, Waiting, Read, Server, State, has, holds, enters, same-entry, is-open, core, slots, clients, no-read, fresh}
-use Rattle.rules.proofs.Words.{upd-same, upd-other, upd-keeps, upd-each, holds-push}
+use Rattle.std.proofs.shelf.Tests.{eq-eqb, ne-eqb, eqb-true, lt-ltb, and-parts, and-from, cond-both}
+use Rattle.rules.proofs.RankedMessages.{Message}
+use Rattle.rules.proofs.RankedWords.{upd, Lanes, posted, spread, taken}
+use Rattle.rules.proofs.Core.{heard, Good, Sound}
+use Rattle.rules.proofs.Ranked.{Code, Read, Server, State, has, holds, is-open, core, slots}
+use Rattle.rules.proofs.Words.{upd-each}
 use Rattle.rules.proofs.Alter
 use Rattle.rules.proofs.Alter.{Alter, was, new, alter-keeps}
-use Rattle.rules.proofs.Take.{Take, take-keeps}
-use Rattle.rules.proofs.Post.{Post, post-keeps}
+use Rattle.rules.proofs.Take.{take-keeps}
+use Rattle.rules.proofs.Post.{post-keeps}
 
 -- of a server before and after: a place for reads has what it had, or nothing open, or a new read
 pub data Slot (p r : Server) (i : ℕ) : Type 0 where

@@ -1,63 +1,31 @@
 -- What a write and an apply make of the peaks; reads answered at once give the latest, in every run.
-use mathlib.Core.Path.{_≡_, refl, sym, ap, _∙_, subst}
-use mathlib.Core.List.{List, [], _∷_, _++_}
-use mathlib.Core.Bool.{Bool, true, false, cond, _&&_, _||_, not}
+use mathlib.Core.Path.{_≡_, refl, sym, ap, _∙_, subst, ap₂}
+use mathlib.Core.List.{List, [], _∷_, _++_, append-nil}
+use mathlib.Core.Bool.{Bool, true, false, cond}
 use mathlib.Core.Logic.{_⊎_, inl, inr, ⊎-elim}
-use Prim.Native.Nat.{ℕ, zero, suc, _+_, _-_, _<_, _≤_, min, max}
+use Prim.Native.Nat.{ℕ, _+_, _-_, _<_, _≤_, max, _/_, _%_}
 use native.Mathlib.Omega.{arith}
-use lib.Dec.{eqb, ltb, leb}
-use lib.ListN.{getD, length, drop}
-use Rattle.std.specs.shelf.Lists.{kept-by}
-use Rattle.std.proofs.shelf.Ways.{tells}
-use Rattle.std.proofs.shelf.Tests.{or-from, and-left, and-right, both-ways, cases-bool, cases-eq, cases-order, cases-lt, eq-eqb, ne-eqb, eqb-true, eqb-false, ltb-true, ltb-false, leb-true, leb-false, lt-ltb, and-parts, and-from, and-cases, or-cases, or-parts, or-left, or-right, not-true, not-false, cond-both, cond-true, cond-false}
-use Rattle.rules.proofs.RankedMessages.{Message, Written, Tagged, Question, Plain, Coded, tag, height, server}
-use Rattle.rules.proofs.RankedWords.{upd, listed, every, some, seek, lowest, Lanes, posted, spread, taken, free}
-use Rattle.rules.proofs.Core.{Core, heard, Good, Sound, Asked}
-use Rattle.rules.proofs.Ranked.{Code, Entry, Waiting, Read, Server, State, has, holds, enters, same-entry, kept, highest, top-tag, zeros, swap, is-open, core, slots, clients, depth, queue, most-writes, most-reads, most-height, no-read, fresh}
-use Rattle.std.specs.declared.option.Option.{Option}
-use Rattle.std.specs.declared.option.Option.the-variants.{None, Some}
-use Rattle.std.proofs.shelf.Counted.{getD-map-counting}
-use Rattle.rules.proofs.RankedSteps as Steps
-use Rattle.rules.proofs.RankedSteps.{Call, Write, Ask, Collect, Deliver, Apply, Encode, Sweep, Answer, Refused, Tag, Value, Number, Still, Nothing, Outcome, Count, Found, Turn, turn, check, unless, write-refusal, open-refusal, read-refusal, read-found, collect-refusal, collect-at, object-refusal, lane-refusal, put, entered, counted, queued, sifted, reading, tells as hearing, moved, new-read, opening, answered, in-hand, overtaken, Picked, room, history-room, elements, write-tag, write-done, write, open-done, free-slot, open-read, from-history, from-symbol, read, client-slot, collect-done, collect, wait-tag, picked, apply-done, apply-picked, apply, move-done, enter-done, encode-contained, within, encode-other, encode, floor, wanted, stays, settled, swept, sweep-done, sweep, fits, states, mixed, reply, question-done, open-slot, take-done, internal-answer, client-answer, settle, mendable, mended, got, oldest, deliver, step, after, run}
-use Rattle.rules.proofs.Words.{upd-same, upd-other, upd-keeps, upd-each, every-at, every-from, some-from, seek-found, lowest-le, enters-push, holds-push, enters-sift, highest-found}
-use Rattle.rules.proofs.Carry.{Carry, good-carry}
-use Rattle.rules.proofs.Take.{Take, take-keeps}
-use Rattle.rules.proofs.Move
-use Rattle.rules.proofs.Move.{move-keeps}
-use Rattle.rules.proofs.Sweep
-use Rattle.rules.proofs.Sweep.{Idle, below, level, sweep-keeps}
-use Rattle.rules.proofs.Replies.{stated, opens, replies, counts, usable, starts}
-use Rattle.rules.proofs.Frames.{Slot, same, fresh-read, Mild, mild-self, spread-from, spread-else, taken-here, taken-else, with-lanes, Fine, fine-put, fine-spread, fine-post, fine-take}
-use mathlib.Core.Path.{ap₂}
+use lib.Dec.{eqb, ltb}
+use lib.ListN.{getD}
 use Rattle.std.specs.shelf.Lists.{All}
-use Rattle.std.proofs.shelf.Elements.{all-push, all-drop, all-kept-by, all-weaker}
-use Rattle.std.proofs.shelf.Counted.{length-map-counting, fill-by-all}
-use Rattle.rules.proofs.Core.{Replied}
-use Rattle.rules.proofs.RankedLaw.{mix, Lawful, Decoded, Tested, only, Allowed, Allowed-message}
-use Rattle.rules.proofs.Calls.{unless-both, checked, object-server, object-object, read-server}
-use Rattle.rules.proofs.Deliver.{lane-ends, states-stated, open-found, mends}
-use Rattle.rules.proofs.Source.{Owner, Sent, Sourced, waited, Chosen, picked-all}
-use Rattle.rules.proofs.Algebra.{Cells, Mix, mix-tags, swap-mix, mix-same}
-use Rattle.rules.proofs.Calls.{overtaken-open, read-object}
-use Rattle.rules.proofs.Values.{live, Same-read, Still-reads, still-self, Of-entry, Of-tag, Right, Told, Valued, kept-right, lanes-still, put-still, put-valued}
-use Rattle.rules.proofs.Words.{ltb-step, upto, upto-none, upto-all, upto-here, upto-next, upto-else}
-use Rattle.rules.proofs.Valuing.{closed-same, still-same, right-same, decoded-right}
-use Rattle.rules.proofs.Source.{Found-right}
-use Rattle.rules.proofs.Mixing.{reply-right, states-of, held-of, mended-right}
-use Prim.Native.Nat.{_*_, _/_, _%_}
-use mathlib.Core.List.{append-nil, append-assoc}
-use Rattle.rules.proofs.RankedLaw.{Event, event, events, accepted-by, accepted, given, Coded-right, Allowed-run}
-use Rattle.rules.proofs.Valuing.{write-valued, read-valued, collect-valued, apply-valued, encode-valued, sweep-valued}
-use Rattle.rules.proofs.Carrying.{deliver-valued, found-right}
-use Rattle.rules.proofs.Source.{write-sourced, read-sourced, collect-sourced, apply-sourced, encode-sourced, sweep-sourced, deliver-sourced}
-use Rattle.rules.proofs.Cases.{write-cases, apply-cases, read-cases, collect-cases, sweep-cases, encode-cases, deliver-cases}
-use Rattle.rules.proofs.Always.{Stands, step-stands, fresh-stands}
-use Rattle.rules.proofs.Algebra.{no-cells, no-mix}
-use Rattle.rules.proofs.Growing.{Told-right, Tops, step-told, cells-grow, sourced-grow, valued-grow, kept-new, new-tag, rises}
-use Rattle.rules.proofs.RankedLaw.{best, applies, applied, latest, Coded-always, Read-always}
-use mathlib.Core.Path.{fun-ext}
-use Rattle.rules.proofs.Peaks.{peak, best-push, best-log, Peaks, read-peaks, collect-peaks, encode-peaks, sweep-peaks, deliver-peaks, overtaken-left, read-latest}
-use Rattle.rules.proofs.Words.{top-push, top-bound, top-found}
+use Rattle.std.proofs.shelf.Tests.{or-from, and-left, both-ways, cases-bool, cases-eq, eq-eqb, ne-eqb, eqb-true, ltb-false, and-parts, and-from, or-cases, or-parts, or-right, cond-both, cond-true, cond-false}
+use Rattle.rules.proofs.RankedMessages.{Written, tag, height, server}
+use Rattle.rules.proofs.RankedWords.{upd, listed, Lanes, spread}
+use Rattle.rules.proofs.Ranked.{Code, Entry, Waiting, Read, Server, State, enters, same-entry, highest, top-tag, is-open, slots, clients, fresh}
+use Rattle.std.specs.declared.option.Option.the-variants.{Some}
+use Rattle.rules.proofs.RankedSteps as Steps
+use Rattle.rules.proofs.RankedSteps.{Call, Write, Ask, Collect, Deliver, Apply, Encode, Sweep, Answer, Found, write-refusal, entered, counted, queued, reading, overtaken, Picked, write-tag, write-done, write, wait-tag, picked, apply-done, step, after}
+use Rattle.rules.proofs.Words.{upd-same, upd-other, enters-push, top-push}
+use Rattle.rules.proofs.Move
+use Rattle.rules.proofs.Sweep
+use Rattle.std.proofs.shelf.Elements.{all-push, all-weaker}
+use Rattle.rules.proofs.RankedFacts.{Lawful, Allowed, accepted-by, best, applies}
+use Rattle.rules.proofs.Calls.{overtaken-open}
+use Rattle.rules.proofs.Source.{waited, Chosen, picked-all}
+use Rattle.rules.proofs.Values.{live, Of-entry, Of-tag}
+use Rattle.rules.proofs.Cases.{write-cases, apply-cases}
+use Rattle.rules.proofs.Growing.{Told-right, new-tag, rises}
+use Rattle.rules.proofs.Peaks.{peak, best-push, best-log, Peaks, read-peaks, collect-peaks, encode-peaks, sweep-peaks, deliver-peaks, overtaken-left}
 use Rattle.rules.proofs.Coded.{move-told, fresh-told, checked-write, top-after}
 
 -- a tag is of one object
@@ -264,17 +232,6 @@ module _ (g : Code) (R : Lawful g) (L : List Entry) (A : ℕ → List ℕ) (S : 
     ; unique = step-unique (m .call) (m .found)
     ; tops = step-tops (m .call) (m .found) }
 
-pub run-known : (g : Code) (R : Lawful g) (L : List Entry) (A : ℕ → List ℕ) (S : State) (ms : List Steps.Move) → Known g R L A S → Allowed-run g S ms
-    → Known g R (L ++ accepted (events g S ms)) (λ k. A k ++ applied k (events g S ms)) (run g S ms)
-run-known g R L A S [] h ok = subst (λ (B : ℕ → List ℕ). Known g R (L ++ []) B S) (sym (fun-ext (λ k. append-nil (A k)))) (rw (append-nil L) h)
-run-known g R L A S (m ∷ ms) h ok =
-    let c = m .call in
-    let a = step g S (m .call) (m .found) .answer in
-    let es = events g (after g S m) ms in
-    rw (← append-assoc L (accepted-by c a) (accepted es))
-    (subst (λ (B : ℕ → List ℕ). Known g R ((L ++ accepted-by c a) ++ accepted es) B (run g (after g S m) ms)) (fun-ext (λ k. append-assoc (A k) (applies k c a) (applied k es)))
-      (run-known g R (L ++ accepted-by c a) (also A c a) (after g S m) ms (step-known g R L A S h m (ok .0)) (ok .1)))
-
 pub fresh-known : (g : Code) (R : Lawful g) → Known g R [] (λ _. []) (fresh g)
 fresh-known g R = record {
     told = fresh-told g R
@@ -286,9 +243,3 @@ fresh-known g R = record {
     fresh-enters x t = unfold enters in refl
     fresh-peak : (x : ℕ) → 0 ≡ max 0 (top-tag x [])
     fresh-peak x = unfold highest in refl
-
--- a read that is answered at once gives the latest of its object there, in every run
-pub read-always : Read-always
-read-always g R ms ok s x l f allowed v t w e =
-    let h = run-known g R [] (λ _. []) (fresh g) ms (fresh-known g R) ok in
-    read-latest g (accepted (events g (fresh g) ms)) (λ k. applied k (events g (fresh g) ms)) (run g (fresh g) ms) (h .told .stands .fine) (h .peaks) R (h .told .cells) (h .told .sourced) (h .told .valued) s x l f allowed v t w e

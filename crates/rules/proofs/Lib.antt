@@ -5,7 +5,7 @@ pub mod Core
 pub mod RankedWords
 pub mod Ranked
 pub mod RankedSteps
-pub mod RankedLaw
+pub mod RankedFacts
 pub mod Fitting
 pub mod Walks
 pub mod Alter

@@ -1,28 +1,27 @@
 -- Each write under way or waiting is one of its server's writes; clocks and notices over each call.
-use mathlib.Core.Path.{_≡_, refl, sym, ap, ap₂, _∙_, subst, fun-ext}
+use mathlib.Core.Path.{_≡_, refl, sym, ap, _∙_, subst, fun-ext}
 use mathlib.Core.List.{List, [], _∷_, _++_, append-nil}
-use mathlib.Core.Bool.{Bool, true, false, cond, _&&_, _||_, not}
-use mathlib.Core.Logic.{_⊎_, inl, inr, ⊎-elim}
-use Prim.Native.Nat.{ℕ, zero, suc, _+_, _*_, _/_, _%_, _<_, _≤_}
+use mathlib.Core.Bool.{Bool, true, cond, _&&_, not}
+use mathlib.Core.Logic.{inl, inr}
+use Prim.Native.Nat.{ℕ, suc, _+_, _/_, _%_, _<_, _≤_}
 use native.Mathlib.Omega.{arith}
 use lib.Dec.{eqb, ltb, leb}
 use lib.ListN.{getD, length, take, drop}
-use Rattle.std.specs.shelf.Lists.{All, Has}
+use Rattle.std.specs.shelf.Lists.{All}
 use Rattle.std.specs.declared.option.Option.{Option}
 use Rattle.std.specs.declared.option.Option.the-variants.{None, Some}
-use Rattle.std.proofs.shelf.Tests.{cases-eq, cond-both, cond-true, cond-false, eq-eqb, ne-eqb, eqb-true, ltb-true, leb-true, and-parts}
+use Rattle.std.proofs.shelf.Tests.{cases-eq, cond-both, cond-true, cond-false, eq-eqb, ne-eqb, eqb-true, leb-true, and-parts}
 use Rattle.std.proofs.shelf.Elements.{all-push, all-drop, all-take, all-append, all-getD, all-weaker, all-has}
 use Rattle.std.proofs.shelf.Counted.{getD-map-counting}
-use Rattle.rules.specs.Words.{upd, every}
+use Rattle.rules.specs.Words.{upd}
 use Rattle.rules.specs.Turns.{Call, Write, Read as Ask, Collect, Deliver, Apply, Encode, Sweep, Found}
-use Rattle.rules.specs.Runs.{Move}
 use Rattle.rules.proofs.RankedMessages.{Message, Written, Tagged, Question, Plain, Coded, tag, server}
 use Rattle.rules.proofs.RankedWords.{listed, spread, posted, taken, Lanes}
-use Rattle.rules.proofs.Ranked.{Code, Entry, Waiting, Read, Server, State, holds, kept, no-read, clients, swap, fresh}
+use Rattle.rules.proofs.Ranked.{Code, Entry, Waiting, Server, State, holds, kept, no-read, clients, fresh}
 use Rattle.rules.proofs.RankedSteps as Steps
-use Rattle.rules.proofs.RankedSteps.{Answer, Refused, Tag, Value, Number, Still, Nothing, Outcome, Count, Turn, turn, Picked, entered, counted, queued, sifted, reading, moved, opening, overtaken, write-tag, write-refusal, write-done, apply-done, open-done, collect-done, move-done, enter-done, sweep-done, take-done, question-done, reply, mixed, states, next-ready, picked, wait-tag, step, free-slot}
-use Rattle.rules.proofs.RankedLaw.{Lawful, applies}
-use Rattle.rules.proofs.Words.{upd-same, upd-other, upd-each, upd-keeps, every-at}
+use Rattle.rules.proofs.RankedSteps.{Answer, Refused, Tag, Value, Number, Still, Nothing, Outcome, Count, Turn, turn, Picked, entered, counted, queued, sifted, reading, moved, opening, write-tag, write-refusal, write-done, apply-done, open-done, collect-done, move-done, enter-done, sweep-done, take-done, question-done, reply, mixed, states, next-ready, picked, wait-tag, step, free-slot}
+use Rattle.rules.proofs.RankedFacts.{Lawful, applies}
+use Rattle.rules.proofs.Words.{upd-same, upd-other, upd-keeps, every-at}
 use Rattle.rules.proofs.Source.{next-picks, Picks}
 use Rattle.rules.proofs.Cases.{write-cases, apply-cases-at, read-cases, collect-cases, sweep-cases, encode-cases, deliver-cases, Receives, Queues, as-before, joins}
 use Rattle.rules.proofs.Coded.{checked-write}

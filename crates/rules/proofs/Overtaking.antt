@@ -1,30 +1,27 @@
 -- Reads over the applying of a write: a client's open read of its object is answered exactly where the events close it.
 use mathlib.Core.Path.{_≡_, refl, sym, ap, ap₂, _∙_, subst}
-use mathlib.Core.List.{List, [], _∷_, _++_, map}
-use mathlib.Core.Bool.{Bool, true, false, cond, _&&_, _||_, not}
+use mathlib.Core.List.{List, [], _∷_, _++_}
+use mathlib.Core.Bool.{Bool, true, false, cond, _&&_, _||_}
 use mathlib.Core.Logic.{_⊎_, inl, inr, ⊎-elim}
-use Prim.Native.Nat.{ℕ, zero, suc, _+_, _<_, _≤_, max}
+use Prim.Native.Nat.{ℕ, suc, _+_, _<_}
 use native.Mathlib.Omega.{arith}
-use lib.Dec.{eqb, ltb, leb}
+use lib.Dec.{eqb, ltb}
 use lib.ListN.{getD, length}
 use Rattle.std.specs.shelf.Lists.{All}
-use Rattle.std.proofs.shelf.Tests.{cases-bool, cases-eq, both-ways, and-parts, and-from, and-right, and-left, and-cases, lt-ltb, ltb-true, eq-eqb, ne-eqb, eqb-true, eqb-false, cond-true, cond-false, or-right}
+use Rattle.std.proofs.shelf.Tests.{cases-bool, both-ways, and-parts, and-from, and-right, and-left, and-cases, lt-ltb, ltb-true, eq-eqb, eqb-true, cond-true, cond-false}
 use Rattle.std.proofs.shelf.Counted.{fill-by-all}
-use Rattle.message.specs.declared.tag.Tag as declared
 use Rattle.message.specs.Tags.{lower}
-use Rattle.rules.specs.Words.{upd}
 use Rattle.rules.specs.Histories.{has-entry}
 use Rattle.rules.specs.Law.{with-own}
 use Rattle.rules.specs.Events as told
-use Rattle.rules.specs.Events.{Event, Followed, follow-call, follow-write, follow-all, closed, replied, is-newer, reads-of}
+use Rattle.rules.specs.Events.{Event, Followed, follow-call, follow-write, follow-all, closed, is-newer}
 use Rattle.rules.proofs.Unranked.{tag-at}
-use Rattle.rules.proofs.Ranked.{Code, layout-of, Entry, Read, State, enters, kept, is-open, no-read, clients, slots, most-reads}
+use Rattle.rules.proofs.Ranked.{Code, layout-of, Entry, Read, enters, kept, is-open, clients, slots}
 use Rattle.rules.proofs.RankedSteps.{answered, overtaken}
-use Rattle.rules.proofs.RankedLaw.{best}
-use Rattle.rules.proofs.Words.{upd-same, upd-other}
-use Rattle.rules.proofs.View.{entry-at, has-entry-at, lower-at}
+use Rattle.rules.proofs.RankedFacts.{best}
+use Rattle.rules.proofs.View.{has-entry-at, lower-at}
 use Rattle.rules.proofs.Told.{Tells, latest-same, given-same}
-use Rattle.rules.proofs.Following.{all-length, all-at, at, live, Linked, Answers, Stands-at, Follows, Moves, stays, gone, Idle, follows-change}
+use Rattle.rules.proofs.Following.{all-length, all-at, at, live, Linked, Answers, Follows, Moves, stays, gone, Idle, follows-change}
 
 -- lists of reads with the same elements
 pub same-reads : (F G : List Followed) (d : Followed) → length G ≡ length F → ((k : ℕ) → k < length F → getD G k d ≡ getD F k d) → G ≡ F

@@ -1,12 +1,11 @@
 -- What each server has applied, by counts of each server's writes in order: a write brings what its server had applied before it.
-use mathlib.Core.Path.{_≡_, refl, sym, ap, ap₂, _∙_, subst}
+use mathlib.Core.Path.{_≡_, refl, sym, ap, _∙_, subst}
 use mathlib.Core.List.{List, [], _∷_, _++_}
-use mathlib.Core.Bool.{Bool, true, false, cond}
 use mathlib.Core.Logic.{_⊎_, inl, inr, ⊎-elim}
-use Prim.Native.Nat.{ℕ, zero, suc, _+_, _%_, _/_, _<_, _≤_}
+use Prim.Native.Nat.{ℕ, suc, _+_, _%_, _<_, _≤_}
 use native.Mathlib.Omega.{arith}
 use lib.ListN.{getD, length}
-use Rattle.std.specs.shelf.Lists.{All, Has}
+use Rattle.std.specs.shelf.Lists.{Has}
 use Rattle.std.proofs.shelf.Tests.{cases-eq, cases-lt}
 use Rattle.std.proofs.shelf.Lists.{getD-append-left, getD-push, length-push}
 use Rattle.std.proofs.shelf.Elements.{has-append-left, has-push, has-push-cases}

@@ -1,16 +1,15 @@
 -- A group as functions of numbers: its code, its servers, its lanes.
-use mathlib.Core.Path.{_≡_}
-use mathlib.Core.List.{List, [], _∷_, _++_}
+use mathlib.Core.List.{List, [], _∷_}
 use mathlib.Core.Bool.{Bool, true, false, cond, _&&_, _||_, not}
-use Prim.Native.Nat.{ℕ, zero, suc, _+_, _<_, _≤_, max}
-use lib.Dec.{eqb, ltb, leb}
+use Prim.Native.Nat.{ℕ, max}
+use lib.Dec.{eqb, ltb}
 use Rattle.field.specs.Arithmetic.{Arithmetic}
 use Rattle.code.specs.Codings.{Coding}
 use Rattle.rules.specs.State.{Layout}
-use lib.ListN.{length, getD}
-use Rattle.rules.proofs.RankedMessages.{Message, tag}
+use lib.ListN.{getD}
+use Rattle.rules.proofs.RankedMessages.{tag}
 use Rattle.rules.proofs.Core.{Core}
-use Rattle.rules.proofs.RankedWords.{upd, listed, Lanes}
+use Rattle.rules.proofs.RankedWords.{listed, Lanes}
 
 -- the sizes, the field's operations, and the coefficient of a server and an object
 pub record Code : Type 0 where

@@ -1,20 +1,19 @@
--- The seven calls, each as a function of the state and of what was found, and runs.
-use mathlib.Core.Path.{_≡_}
+-- The seven calls on ranked states, each as a function of the state and of what was found, in the shape of the rules.
 use mathlib.Core.List.{List, [], _∷_, _++_}
 use mathlib.Core.Bool.{Bool, true, false, cond, _&&_, _||_, not}
-use Prim.Native.Nat.{ℕ, zero, suc, _+_, _-_, _*_, _/_, _%_, _<_, _≤_, max}
+use Prim.Native.Nat.{ℕ, zero, suc, _+_, _-_, max}
 use lib.Dec.{eqb, ltb, leb}
 use lib.ListN.{length, getD, take, drop}
 use Rattle.std.specs.declared.option.Option.{Option}
 use Rattle.std.specs.declared.option.Option.the-variants.{None, Some}
 use Rattle.std.specs.shelf.Lists.{kept-by}
-pub use Rattle.rules.specs.Turns.{Call, Write, Read as Ask, Collect, Deliver, Apply, Encode, Sweep, Found}
-pub use Rattle.rules.specs.Runs.{Move}
 use Rattle.rules.specs.Delivering as rule
 use Rattle.rules.proofs.Unranked.{message-at}
 use Rattle.rules.proofs.RankedMessages.{Message, Written, Tagged, Question, Plain, Coded, tag, height, server}
 use Rattle.rules.proofs.RankedWords.{upd, listed, every, some, seek, lowest, Lanes, posted, spread, taken, free}
-use Rattle.rules.proofs.Ranked.{Code, layout-of, Entry, Waiting, Read, Server, State, clients, slots, depth, queue, most-writes, most-reads, most-height, has, zeros, swap, same-entry, enters, holds, kept, highest, top-tag, no-read, is-open}
+use Rattle.rules.proofs.Ranked.{Code, layout-of, Entry, Waiting, Read, Server, State, clients, slots, depth, queue, most-writes, most-reads, most-height, has, swap, same-entry, holds, kept, highest, top-tag, no-read, is-open}
+pub use Rattle.rules.specs.Turns.{Call, Write, Read as Ask, Collect, Deliver, Apply, Encode, Sweep, Found}
+pub use Rattle.rules.specs.Runs.{Move}
 
 pub data Answer : Type 0 where
   Refused : ℕ → Answer
@@ -397,7 +396,7 @@ module _ (g : Code) where
   unfoldable pub deliver : State → ℕ → ℕ → Found → Turn
   deliver S a b f = unless (lane-refusal a b) S (oldest S a b (S .lanes a b) f)
 
-  -- ---- one call, and a run of calls
+  -- ---- one call
 
   abbrev pub step : State → Call → Found → Turn
   step S (Write s x v) f = write S s x v
@@ -410,7 +409,3 @@ module _ (g : Code) where
 
   abbrev pub after : State → Move → State
   after S m = step S (m .call) (m .found) .next
-
-  abbrev pub run : State → List Move → State
-  run S [] = S
-  run S (m ∷ ms) = run (after S m) ms

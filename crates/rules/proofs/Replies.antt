@@ -1,16 +1,15 @@
 -- What the invariant says of a new question, of a reply, and of a reply that is taken; and where it starts.
-use mathlib.Core.Path.{_≡_, refl, sym, ap, _∙_, subst}
+use mathlib.Core.Path.{_≡_, refl, sym, _∙_}
 use mathlib.Core.List.{List, [], _∷_, _++_}
 use mathlib.Core.Bool.{Bool, true, false, cond}
 use mathlib.Core.Logic.{_⊎_, inl, inr, ⊎-elim}
-use Prim.Native.Nat.{ℕ, zero, suc, _+_, _<_, _≤_}
+use Prim.Native.Nat.{ℕ, _+_, _<_, _≤_}
 use native.Mathlib.Omega.{arith}
 use lib.Dec.{eqb}
 use lib.ListN.{getD}
-use Rattle.std.proofs.shelf.Tests.{both-ways, cases-bool, cases-eq, cases-order, eq-eqb, ne-eqb}
-use Rattle.rules.proofs.RankedMessages.{Message, Written, Tagged, Question, Plain, Coded}
-use Rattle.rules.proofs.Core.{Core, heard, after, Chain, On, Kept, Asked, Mends, Replied, Good, Sound}
-use Rattle.std.proofs.shelf.Tests.{eqb-true, eqb-false}
+use Rattle.std.proofs.shelf.Tests.{both-ways, cases-bool, cases-order, eqb-true, eqb-false}
+use Rattle.rules.proofs.RankedMessages.{Message, Question, Coded}
+use Rattle.rules.proofs.Core.{Core, Chain, On, Kept, Asked, Mends, Replied, Good, Sound}
 use Rattle.rules.proofs.Walks.{chain-after, chain-le, on-le}
 
 -- the tag that a server states of an object it contains, where u is asked, o its own tag, and it holds o and u or not

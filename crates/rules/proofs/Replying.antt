@@ -1,24 +1,24 @@
 -- Reads over the delivery of a reply: it is taken by the read with its number, and closes it where the delivery answers 4.
 use mathlib.Core.Path.{_≡_, refl, sym, ap, ap₂, _∙_, subst}
-use mathlib.Core.List.{List, [], _∷_, _++_, map}
+use mathlib.Core.List.{List, [], _∷_, _++_}
 use mathlib.Core.Bool.{Bool, true, false, cond, _&&_, _||_, not}
-use mathlib.Core.Logic.{_⊎_, inl, inr, ⊎-elim}
-use Prim.Native.Nat.{ℕ, zero, suc, _+_, _<_, _≤_, max}
+use mathlib.Core.Logic.{inl, inr}
+use Prim.Native.Nat.{ℕ, suc, _+_, _<_}
 use native.Mathlib.Omega.{arith}
-use lib.Dec.{eqb, ltb, leb}
-use lib.ListN.{getD, length}
-use Rattle.std.proofs.shelf.Tests.{cases-bool, cases-eq, both-ways, and-parts, and-from, and-right, and-left, lt-ltb, ltb-true, eq-eqb, ne-eqb, cond-true, cond-false, or-right}
+use lib.Dec.{eqb, ltb}
+use lib.ListN.{length}
+use Rattle.std.proofs.shelf.Tests.{cases-bool, cases-eq, both-ways, and-parts, and-from, and-right, and-left, lt-ltb, eq-eqb, ne-eqb, cond-true, cond-false, or-right}
 use Rattle.rules.specs.Words.{upd}
 use Rattle.rules.specs.Law.{with-own}
 use Rattle.rules.specs.Events as told
 use Rattle.rules.specs.Events.{Event, Followed, follow-call, follow-deliver, follow-all, closed, replied, replies-to, is-refused, is-outcome-4}
 use Rattle.rules.proofs.Unranked.{tag-at}
 use Rattle.rules.proofs.Ranked.{Code, layout-of, Entry, Read, kept, is-open, no-read, clients, slots}
-use Rattle.rules.proofs.RankedSteps.{answered, in-hand}
-use Rattle.rules.proofs.RankedLaw.{best}
+use Rattle.rules.proofs.RankedSteps.{in-hand}
+use Rattle.rules.proofs.RankedFacts.{best}
 use Rattle.rules.proofs.Words.{upd-same, upd-other}
 use Rattle.rules.proofs.Told.{Tells, latest-same, given-same}
-use Rattle.rules.proofs.Following.{all-length, all-at, at, live, Linked, Answers, Stands-at, Follows, Moves, stays, gone, Idle, follows-change}
+use Rattle.rules.proofs.Following.{all-length, all-at, at, live, Linked, Answers, Follows, Moves, stays, gone, follows-change}
 use Rattle.rules.proofs.Overtaking.{same-reads, relink}
 
 module _ (g : Code) (es : List Event) (e : Event) (a s m : ℕ) (F : List Followed) (rs : ℕ → Read) (o : ℕ) (h : Follows s F rs o)

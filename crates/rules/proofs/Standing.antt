@@ -1,12 +1,11 @@
 -- What stands after each call of a run, of its events and its state.
 use mathlib.Core.Path.{_≡_, refl, sym, ap, ap₂, _∙_, subst, fun-ext}
 use mathlib.Core.List.{List, [], _∷_, _++_, map, append-nil, append-assoc}
-use mathlib.Core.Bool.{Bool, true, false, cond, _&&_, _||_, not}
-use mathlib.Core.Logic.{_⊎_, inl, inr, ⊎-elim}
-use Prim.Native.Nat.{ℕ, zero, suc, _+_, _<_, _≤_, max}
+use mathlib.Core.Bool.{true, false, _&&_, not}
+use Prim.Native.Nat.{ℕ, suc, _+_, _<_}
 use native.Mathlib.Omega.{arith}
-use lib.Dec.{eqb, ltb, leb}
-use Rattle.std.specs.shelf.Lists.{All, Has}
+use lib.Dec.{eqb, ltb}
+use Rattle.std.specs.shelf.Lists.{Has}
 use Rattle.std.proofs.shelf.Lists.{map-append}
 use Rattle.std.proofs.shelf.Tests.{both-ways, and-right, and-parts, not-true, eqb-true}
 use Rattle.message.specs.declared.tag.Tag as declared
@@ -25,24 +24,23 @@ use Rattle.rules.specs.Events as told
 use Rattle.rules.specs.Events.{Event, event, events}
 use Rattle.rules.specs.Law as rule
 use lib.ListN.{length}
-use Rattle.std.proofs.shelf.Lists.{getD-push, length-push}
-use Rattle.rules.proofs.Lists.{each-push, Image, has-image, image-has}
-use Rattle.rules.proofs.Past.{Made, no-made, Writes, nth, Longer, pushed, pushed-last, pushed-among, pushed-longer, past-brought}
+use Rattle.rules.proofs.Lists.{each-push, has-image, image-has}
+use Rattle.rules.proofs.Past.{Made, Writes, nth, Longer, pushed-last, pushed-among, pushed-longer, past-brought}
 use Rattle.rules.proofs.Heights.{Heights, Proper, step-heights, step-proper}
-use Rattle.rules.proofs.Following.{at, Linked, Answers, Stands-at, Follows, reads-push}
+use Rattle.rules.proofs.Following.{at, Answers, Follows, reads-push}
 use Rattle.rules.proofs.FollowSteps.{newF, step-follows}
 use Rattle.rules.proofs.Words.{seek-found}
 use Rattle.code.specs.Recovery.{Recovers}
 use Rattle.std.proofs.shelf.Elements.{all-from-getD}
 use Rattle.rules.proofs.Notices.{Traced, made-write, made-by, step-traced, fresh-traced}
 use Rattle.message.specs.Tags.{rank}
-use Rattle.rules.proofs.Unranked.{tag-at, message-at}
-use Rattle.rules.proofs.Ranked.{Code, layout-of, Entry, Read, Server, State, clients, enters, kept, fresh, slots}
+use Rattle.rules.proofs.Unranked.{tag-at}
+use Rattle.rules.proofs.Ranked.{Code, layout-of, Entry, Read, State, clients, kept, fresh, slots}
 use Rattle.rules.proofs.RankedSteps as Steps
-use Rattle.rules.proofs.RankedSteps.{Answer, Refused, Tag, Value, Number, Still, Nothing, Outcome, Count, Turn, write-refusal, write-tag}
-use Rattle.rules.proofs.RankedLaw as law
-use Rattle.rules.proofs.RankedLaw.{accepted-by, applies, best, Lawful, Waits}
-use Rattle.rules.proofs.View.{entry-at, asking-at, given-at, read-at, Shape, shape-free, shape-open, shape-answered, shape, state-at, answer-at, turn-at, fresh-at, has-entry-at, holds-at, rank-at}
+use Rattle.rules.proofs.RankedSteps.{Answer, Refused, Tag, Value, Number, Still, Nothing, Outcome, Count, Turn, write-tag}
+use Rattle.rules.proofs.RankedFacts as law
+use Rattle.rules.proofs.RankedFacts.{accepted-by, Lawful, Waits}
+use Rattle.rules.proofs.View.{entry-at, asking-at, given-at, read-at, Shape, shape-free, shape-open, shape-answered, shape, state-at, answer-at, fresh-at, has-entry-at, holds-at, rank-at}
 use Rattle.rules.proofs.Told.{step-same, allowed, Tells, latest-same, given-same, tells-push}
 use Rattle.rules.proofs.Deliver.{deliver-six}
 use Rattle.rules.proofs.Cases.{write-cases, read-cases, collect-cases}
