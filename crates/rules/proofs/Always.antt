@@ -94,5 +94,6 @@ module _ (g : Code) (R : Lawful g) where
 
   pub fresh-stands : Stands (fresh g)
   fresh-stands = record {
-      ranged = record { servers = λ s. record { own = none; history = tt; waiting = tt; reads = λ i y. none y }; lanes = λ a b. tt }
-    ; fine = starts (g .n) (g .k) (has g) (core (fresh g)) (record { own = λ s x. refl; told = λ s x j. refl; held = λ s x. refl; lane = λ a b. refl; live = λ s i. and-right (ltb i slots) false refl }) }
+    ranged = record { servers = λ s. record { own = none; history = tt; waiting = tt; reads = λ i y. none y }; lanes = λ a b. tt };
+    fine = starts (g .n) (g .k) (has g) (core (fresh g)) (record { own = λ s x. refl; told = λ s x j. refl; held = λ s x. refl; lane = λ a b. refl; live = λ s i. and-right (ltb i slots) false refl });
+  }

@@ -48,29 +48,37 @@ module _ (g : Code) (R : Lawful g) (L : List Entry) (S : State) (h : Told-right 
 
   write-told : (s x : ℕ) (v : List ℕ) (f : Found) → write-refusal g S s x v ≡ 0 → Told-right g R (L ++ record { object = x; tag = write-tag g (S .servers s) s; value = v } ∷ []) (write-done g S s x v)
   write-told s x v f ok = subst (Told-right g R N) (written-next g S s x v ok) (record {
-        stands = step-stands g R S (record { call = Write s x v; found = f }) (h .stands)
-      ; cells = cells
-      ; sourced = write-sourced g (Of-entry g R N) (Of-tag g R N) (λ d q. q .0) (λ y. refl) S (sourced-grow g R L e pos S (h .sourced)) s x v (λ _.
-          (or-right (eqb (e .tag) 0) (enters N x (e .tag)) (enters-push L e x (e .tag) ∙ or-right (enters L x (e .tag)) (same-entry x (e .tag) e) (and-from (eqb x x) (eqb (e .tag) (e .tag)) (eq-eqb x x refl) (eq-eqb (e .tag) (e .tag) refl))),
-           sym (kept-new g L e pos (new-tag L s (S .servers s .top) x (let l = R .few in let m = w .0 in omega arith) (h .tops s (w .0))))))
-      ; valued = write-valued g R N cells S (h .stands .fine) (sourced-grow g R L e pos S (h .sourced)) (valued-grow g R L e pos S (h .sourced) (h .valued)) s x v
-      ; tops = λ i inn. all-push (λ d. (d .tag % 6 ≡ i) → d .tag / 6 ≤ (write g S s x v .next) .servers i .top) L e
-          (all-weaker (λ d. (d .tag % 6 ≡ i) → d .tag / 6 ≤ S .servers i .top) (λ d. (d .tag % 6 ≡ i) → d .tag / 6 ≤ (write g S s x v .next) .servers i .top)
-            (λ d q z. let a = q z in let b = rises g S (Write s x v) f i in omega arith) L (h .tops i inn))
-          (λ z. let si : s ≡ i = server-of i z in rw (← si, written-next g S s x v ok) (let t = top-after g S s x v in let hi = height-of in omega arith)) })
+    stands = step-stands g R S (record { call = Write s x v; found = f }) (h .stands);
+    cells = cells;
+    sourced = write-sourced g (Of-entry g R N) (Of-tag g R N) (λ d q. q .0) (λ y. refl) S (sourced-grow g R L e pos S (h .sourced)) s x v (λ _. (
+      or-right (eqb (e .tag) 0) (enters N x (e .tag)) (enters-push L e x (e .tag) ∙ or-right (enters L x (e .tag)) (same-entry x (e .tag) e) (and-from (eqb x x) (eqb (e .tag) (e .tag)) (eq-eqb x x refl) (eq-eqb (e .tag) (e .tag) refl))),
+      sym (kept-new g L e pos (new-tag L s (S .servers s .top) x (let l = R .few in let m = w .0 in omega arith) (h .tops s (w .0)))),
+    ));
+    valued = write-valued g R N cells S (h .stands .fine) (sourced-grow g R L e pos S (h .sourced)) (valued-grow g R L e pos S (h .sourced) (h .valued)) s x v;
+    tops = λ i inn. all-push (λ d. (d .tag % 6 ≡ i) → d .tag / 6 ≤ (write g S s x v .next) .servers i .top) L e
+        (all-weaker (λ d. (d .tag % 6 ≡ i) → d .tag / 6 ≤ S .servers i .top) (λ d. (d .tag % 6 ≡ i) → d .tag / 6 ≤ (write g S s x v .next) .servers i .top)
+        (λ d q z. let a = q z in let b = rises g S (Write s x v) f i in omega arith) L (h .tops i inn))
+        (λ z. let si : s ≡ i = server-of i z in rw (← si, written-next g S s x v ok) (let t = top-after g S s x v in let hi = height-of in omega arith));
+  })
     where
       e : Entry
       e = record { object = x; tag = write-tag g (S .servers s) s; value = v }
+
       N : List Entry
       N = L ++ e ∷ []
+
       w : (s < g .n) × (length v ≡ g .w) × (elements g v ≡ true)
       w = checked-write g S s x v ok
+
       pos : 0 < e .tag
       pos = omega arith
+
       cells : Cells g R N
       cells = cells-grow g R L e pos (h .cells) (w .1) (λ c lt. ltb-true (getD v c 0) (g .q) (every-at (g .w) (λ c. ltb (getD v c 0) (g .q)) (w .2) c lt))
+
       server-of : (i : ℕ) → e .tag % 6 ≡ i → s ≡ i
       server-of i z = let l = R .few in let m = w .0 in omega arith
+
       height-of : e .tag / 6 ≡ S .servers s .top + 1
       height-of = let l = R .few in let m = w .0 in omega arith
 
@@ -88,8 +96,9 @@ module _ (g : Code) (R : Lawful g) (L : List Entry) (S : State) (h : Told-right 
 
 pub fresh-told : (g : Code) (R : Lawful g) → Told-right g R [] (fresh g)
 fresh-told g R = record {
-    stands = fresh-stands g R
-  ; cells = no-cells g R
-  ; sourced = record { servers = λ s. record { own = λ x. refl; history = tt; waiting = tt; reads = λ i y. refl }; lanes = λ a b. tt }
-  ; valued = record { servers = λ s sn. record { symbol = no-mix g R s sn; object = λ i e. absurd (both-ways (ltb i slots && false) (and-right (ltb i slots) false refl) e); hand = λ i e. absurd (both-ways (ltb i slots && false) (and-right (ltb i slots) false refl) e) }; lanes = λ a b an bn ne. tt }
-  ; tops = λ s sn. tt }
+  stands = fresh-stands g R;
+  cells = no-cells g R;
+  sourced = record { servers = λ s. record { own = λ x. refl; history = tt; waiting = tt; reads = λ i y. refl }; lanes = λ a b. tt };
+  valued = record { servers = λ s sn. record { symbol = no-mix g R s sn; object = λ i e. absurd (both-ways (ltb i slots && false) (and-right (ltb i slots) false refl) e); hand = λ i e. absurd (both-ways (ltb i slots && false) (and-right (ltb i slots) false refl) e) }; lanes = λ a b an bn ne. tt };
+  tops = λ s sn. tt;
+}

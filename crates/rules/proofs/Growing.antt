@@ -93,10 +93,11 @@ entered-grow : (g : Code) (L : List Entry) (e : Entry) (x t : ℕ) → enters L 
 unfolding entered-value enters
 entered-grow g [] e x t h = absurd (both-ways false refl h)
 entered-grow g (d ∷ L) e x t h = elim (cases-bool (same-entry x t d)) [
-    inl q ↦ cond-true (same-entry x t d) (d .value) (entered-value g (L ++ e ∷ []) x t) q ∙ sym (cond-true (same-entry x t d) (d .value) (entered-value g L x t) q)
+  | inl q ↦ cond-true (same-entry x t d) (d .value) (entered-value g (L ++ e ∷ []) x t) q ∙ sym (cond-true (same-entry x t d) (d .value) (entered-value g L x t) q)
   | inr q ↦ cond-false (same-entry x t d) (d .value) (entered-value g (L ++ e ∷ []) x t) q
       ∙ entered-grow g L e x t (⊎-elim (λ w. absurd (both-ways (same-entry x t d) q w)) (λ w. w) (or-cases (same-entry x t d) (enters L x t) h))
-      ∙ sym (cond-false (same-entry x t d) (d .value) (entered-value g L x t) q) ]
+      ∙ sym (cond-false (same-entry x t d) (d .value) (entered-value g L x t) q)
+]
 
 entered-new : (g : Code) (L : List Entry) (e : Entry) → enters L (e .object) (e .tag) ≡ false → entered-value g (L ++ e ∷ []) (e .object) (e .tag) ≡ e .value
 unfolding entered-value enters
@@ -109,15 +110,17 @@ entered-cases : (g : Code) (L : List Entry) (e : Entry) (x t : ℕ) → (entered
 unfolding entered-value
 entered-cases g [] e x t = cond-both (same-entry x t e) (e .value) (zeros g) (λ v. (v ≡ zeros g) ⊎ (v ≡ e .value)) (λ _. inr refl) (λ _. inl refl)
 entered-cases g (d ∷ L) e x t = elim (cases-bool (same-entry x t d)) [
-    inl q ↦ inl (cond-true (same-entry x t d) (d .value) (entered-value g (L ++ e ∷ []) x t) q ∙ sym (cond-true (same-entry x t d) (d .value) (entered-value g L x t) q))
+  | inl q ↦ inl (cond-true (same-entry x t d) (d .value) (entered-value g (L ++ e ∷ []) x t) q ∙ sym (cond-true (same-entry x t d) (d .value) (entered-value g L x t) q))
   | inr q ↦ ⊎-elim (λ w. inl (cond-false (same-entry x t d) (d .value) (entered-value g (L ++ e ∷ []) x t) q ∙ w ∙ sym (cond-false (same-entry x t d) (d .value) (entered-value g L x t) q)))
-              (λ w. inr (cond-false (same-entry x t d) (d .value) (entered-value g (L ++ e ∷ []) x t) q ∙ w)) (entered-cases g L e x t) ]
+      (λ w. inr (cond-false (same-entry x t d) (d .value) (entered-value g (L ++ e ∷ []) x t) q ∙ w)) (entered-cases g L e x t)
+]
 
 pub kept-grow : (g : Code) (L : List Entry) (e : Entry) (x t : ℕ) → holds L x t ≡ true → kept g (L ++ e ∷ []) x t ≡ kept g L x t
 unfolding kept
 kept-grow g L e x t h = elim (cases-bool (eqb t 0)) [
-    inl q ↦ rw q
-  | inr q ↦ rw q (entered-grow g L e x t (⊎-elim (λ w. absurd (both-ways (eqb t 0) q w)) (λ w. w) (or-cases (eqb t 0) (enters L x t) h))) ]
+  | inl q ↦ rw q
+  | inr q ↦ rw q (entered-grow g L e x t (⊎-elim (λ w. absurd (both-ways (eqb t 0) q w)) (λ w. w) (or-cases (eqb t 0) (enters L x t) h)))
+]
 
 pub kept-new : (g : Code) (L : List Entry) (e : Entry) → 0 < e .tag → enters L (e .object) (e .tag) ≡ false → kept g (L ++ e ∷ []) (e .object) (e .tag) ≡ e .value
 unfolding kept
@@ -133,9 +136,10 @@ module _ (g : Code) (R : Lawful g) (L : List Entry) (e : Entry) (pos : 0 < e .ta
 
   pub cells-grow : Cells g R L → length (e .value) ≡ g .w → ((c : ℕ) → c < g .w → getD (e .value) c 0 < g .q) → Cells g R (L ++ e ∷ [])
   cells-grow h long less = record {
-      long = λ x t. ⊎-elim (λ q. ap length q ∙ h .long x t) (λ q. ap length q ∙ long) (kept-cases g L e x t)
-    ; below = λ x t c lt. ⊎-elim (λ q. rw q (h .below x t c lt)) (λ q. rw q (less c lt)) (kept-cases g L e x t)
-    ; zero-tag = λ x. kept-grow g L e x 0 refl ∙ h .zero-tag x }
+    long = λ x t. ⊎-elim (λ q. ap length q ∙ h .long x t) (λ q. ap length q ∙ long) (kept-cases g L e x t);
+    below = λ x t c lt. ⊎-elim (λ q. rw q (h .below x t c lt)) (λ q. rw q (less c lt)) (kept-cases g L e x t);
+    zero-tag = λ x. kept-grow g L e x 0 refl ∙ h .zero-tag x;
+  }
 
   tag-grow : (x t : ℕ) → Of-tag g R L x t → Of-tag g R (L ++ e ∷ []) x t
   tag-grow x t h = holds-push L e x t h
@@ -152,16 +156,21 @@ module _ (g : Code) (R : Lawful g) (L : List Entry) (e : Entry) (pos : 0 < e .ta
 
   pub sourced-grow : (S : State) → Sourced g (Of-entry g R L) (Of-tag g R L) S → Sourced g (Of-entry g R (L ++ e ∷ [])) (Of-tag g R (L ++ e ∷ [])) S
   sourced-grow S h = record {
-      servers = λ s. record {
-          own = λ x. tag-grow x _ (h .servers s .own x)
-        ; history = all-weaker (Of-entry g R L) (Of-entry g R (L ++ e ∷ [])) entry-grow (S .servers s .history) (h .servers s .history)
-        ; waiting = all-weaker (λ v. Of-entry g R L (waited g v)) (λ v. Of-entry g R (L ++ e ∷ []) (waited g v)) (λ v. entry-grow (waited g v)) (S .servers s .waiting) (h .servers s .waiting)
-        ; reads = λ i y. tag-grow y _ (h .servers s .reads i y) }
-    ; lanes = λ a b. all-weaker (Sent g (Of-entry g R L) (Of-tag g R L) a) (Sent g (Of-entry g R (L ++ e ∷ [])) (Of-tag g R (L ++ e ∷ [])) a) (sent-grow a) (S .lanes a b) (h .lanes a b) }
+    servers = λ s. record {
+      own = λ x. tag-grow x _ (h .servers s .own x);
+      history = all-weaker (Of-entry g R L) (Of-entry g R (L ++ e ∷ [])) entry-grow (S .servers s .history) (h .servers s .history);
+      waiting = all-weaker (λ v. Of-entry g R L (waited g v)) (λ v. Of-entry g R (L ++ e ∷ []) (waited g v)) (λ v. entry-grow (waited g v)) (S .servers s .waiting) (h .servers s .waiting);
+      reads = λ i y. tag-grow y _ (h .servers s .reads i y);
+    };
+    lanes = λ a b. all-weaker (Sent g (Of-entry g R L) (Of-tag g R L) a) (Sent g (Of-entry g R (L ++ e ∷ [])) (Of-tag g R (L ++ e ∷ [])) a) (sent-grow a) (S .lanes a b) (h .lanes a b);
+  }
 
   mix-grow : (s : ℕ) (T : ℕ → ℕ) (v : List ℕ) → ((y : ℕ) → y < g .k → Of-tag g R L y (T y)) → Mix g R L s T v → Mix g R (L ++ e ∷ []) s T v
-  mix-grow s T v tags h = record { long = h .long; cells = λ c lt. h .cells c lt ∙ mix-same g R s (λ y. getD (kept g L y (T y)) c 0) (λ y. getD (kept g (L ++ e ∷ []) y (T y)) c 0)
-      (λ y yk. ap (λ z. g .times (g .coefficient s y) (getD z c 0)) (sym (kept-grow g L e y (T y) (tags y yk)))) }
+  mix-grow s T v tags h = record {
+    long = h .long;
+    cells = λ c lt. h .cells c lt ∙ mix-same g R s (λ y. getD (kept g L y (T y)) c 0) (λ y. getD (kept g (L ++ e ∷ []) y (T y)) c 0)
+        (λ y yk. ap (λ z. g .times (g .coefficient s y) (getD z c 0)) (sym (kept-grow g L e y (T y) (tags y yk))));
+  }
 
   told-grow : (S : State) (a b : ℕ) → Sourced g (Of-entry g R L) (Of-tag g R L) S → (m : Message) → Told g R L a (S .servers a) (S .servers b) m → Told g R (L ++ e ∷ []) a (S .servers a) (S .servers b) m
   told-grow S a b src (Written x v t ck) h = tt
@@ -172,11 +181,13 @@ module _ (g : Code) (R : Lawful g) (L : List Entry) (e : Entry) (pos : 0 < e .ta
 
   pub valued-grow : (S : State) → Sourced g (Of-entry g R L) (Of-tag g R L) S → Valued g R L S → Valued g R (L ++ e ∷ []) S
   valued-grow S src h = record {
-      servers = λ s sn. let q = h .servers s sn in record {
-          symbol = mix-grow s (S .servers s .own) (S .servers s .symbol) (λ y _. src .servers s .own y) (q .symbol)
-        ; object = q .object
-        ; hand = λ i lv j jn w. mix-grow j (S .servers s .reads i .tags) (S .servers s .reads i .symbols j) (λ y _. src .servers s .reads i y) (q .hand i lv j jn w) }
-    ; lanes = λ a b an bn ne. all-weaker (Told g R L a (S .servers a) (S .servers b)) (Told g R (L ++ e ∷ []) a (S .servers a) (S .servers b)) (told-grow S a b src) (S .lanes a b) (h .lanes a b an bn ne) }
+    servers = λ s sn. let q = h .servers s sn in record {
+      symbol = mix-grow s (S .servers s .own) (S .servers s .symbol) (λ y _. src .servers s .own y) (q .symbol);
+      object = q .object;
+      hand = λ i lv j jn w. mix-grow j (S .servers s .reads i .tags) (S .servers s .reads i .symbols j) (λ y _. src .servers s .reads i y) (q .hand i lv j jn w);
+    };
+    lanes = λ a b an bn ne. all-weaker (Told g R L a (S .servers a) (S .servers b)) (Told g R (L ++ e ∷ []) a (S .servers a) (S .servers b)) (told-grow S a b src) (S .lanes a b) (h .lanes a b an bn ne);
+  }
 
 -- ---- one step, with the log
 
@@ -189,9 +200,9 @@ unfolding enters
 new-tag [] s top x lt h = refl
 new-tag (d ∷ L) s top x lt h = or-from (same-entry x (tag (top + 1) s) d) (enters L x (tag (top + 1) s))
     (and-right (eqb (d .object) x) (eqb (d .tag) (tag (top + 1) s)) (ne-eqb (d .tag) (tag (top + 1) s) (λ q.
-        let a : d .tag % 6 ≡ s = omega arith in
-        let b = h .0 a in
-        omega arith)))
+    let a : d .tag % 6 ≡ s = omega arith in
+    let b = h .0 a in
+    omega arith)))
     (new-tag L s top x lt (h .1))
 
 tops-rise : (g : Code) (L : List Entry) (S : State) (t : Turn) → Tops g L S → ((s : ℕ) → S .servers s .top ≤ t .next .servers s .top) → Tops g L (t .next)
@@ -222,10 +233,11 @@ module _ (g : Code) (R : Lawful g) (L : List Entry) (S : State) (h : Told-right 
   step-sourced (Apply s) f ok no-write = apply-sourced g (Of-entry g R L) (Of-tag g R L) (λ e q. q .0) (λ x. refl) S (h .sourced) s
   step-sourced (Encode s x) f ok no-write = encode-sourced g (Of-entry g R L) (Of-tag g R L) (λ e q. q .0) (λ x. refl) S (h .sourced) s x f (λ e i rec.
       let sn = object-server g s x e in
-      let xk = object-object g s x e in
-      (h .sourced .servers s .own x,
-       decoded-right g R L (h .cells) (only g s) (λ _. S .servers s .symbol) x (f .value) (S .servers s .own) xk (ok sn xk .decoded rec)
-         (λ j jn q. rw (eqb-true j s q) (h .valued .servers s sn .symbol))))
+      let xk = object-object g s x e in (
+        h .sourced .servers s .own x,
+        decoded-right g R L (h .cells) (only g s) (λ _. S .servers s .symbol) x (f .value) (S .servers s .own) xk (ok sn xk .decoded rec)
+            (λ j jn q. rw (eqb-true j s q) (h .valued .servers s sn .symbol)),
+      ))
   step-sourced (Sweep s x) f ok no-write = sweep-sourced g (Of-entry g R L) (Of-tag g R L) (λ e q. q .0) (λ x. refl) S (h .sourced) s x
 
   step-valued : (c : Call) (f : Found) → Valued g R L (step g S c f .next)
@@ -239,8 +251,9 @@ module _ (g : Code) (R : Lawful g) (L : List Entry) (S : State) (h : Told-right 
 
   pub step-told : (m : Steps.Move) → Allowed g S (m .call) (m .found) → ((s x : ℕ) (v : List ℕ) → m .call ≡ Write s x v → ⊥) → Told-right g R L (after g S m)
   step-told m ok no-write = record {
-      stands = step-stands g R S m (h .stands)
-    ; cells = h .cells
-    ; sourced = step-sourced (m .call) (m .found) ok no-write
-    ; valued = step-valued (m .call) (m .found)
-    ; tops = tops-rise g L S (step g S (m .call) (m .found)) (h .tops) (rises g S (m .call) (m .found)) }
+    stands = step-stands g R S m (h .stands);
+    cells = h .cells;
+    sourced = step-sourced (m .call) (m .found) ok no-write;
+    valued = step-valued (m .call) (m .found);
+    tops = tops-rise g L S (step g S (m .call) (m .found)) (h .tops) (rises g S (m .call) (m .found));
+  }

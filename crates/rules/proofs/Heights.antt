@@ -62,7 +62,7 @@ module _ (g : Code) (R : Lawful g) (L : List Entry) (h : Proper g L) (S : State)
   step-proper (Write s x v) f = write-cases g S (λ t. Proper g (L ++ accepted-by (Write s x v) (t .answer))) (λ r. nil-proper) s x v (λ ok.
       let w = write-ok g R S s x v ok in
       all-push (λ e. (tag-fits g (e .tag) ≡ true) × (0 < e .tag)) L (record { object = x; tag = write-tag g (S .servers s) s; value = v }) h
-        (tag-ok g R (S .servers s .top + 1) s (omega arith) (let l = w .1 in omega arith) (w .0), omega arith))
+      (tag-ok g R (S .servers s .top + 1) s (omega arith) (let l = w .1 in omega arith) (w .0), omega arith))
   step-proper (Ask s x l) f = nil-proper
   step-proper (Collect s m l) f = nil-proper
   step-proper (Deliver a b) f = nil-proper

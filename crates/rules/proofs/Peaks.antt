@@ -31,14 +31,15 @@ peak p x = max (p .own x) (top-tag x (p .history))
 pub best-push : (L : List Entry) (x : ℕ) (A : List ℕ) (t : ℕ) → best L x (A ++ t ∷ []) ≡ cond (enters L x t) (max (best L x A) t) (best L x A)
 best-push L x [] t = elim (cases-bool (enters L x t)) [ inl q ↦ rw q (omega arith) | inr q ↦ rw q ]
 best-push L x (u ∷ A) t = elim (cases-bool (enters L x u)) [
-    inl q ↦ rw q (ap (max u) (best-push L x A t) ∙ elim (cases-bool (enters L x t)) [ inl w ↦ rw w (omega arith) | inr w ↦ rw w ])
-  | inr q ↦ rw q (best-push L x A t) ]
+  | inl q ↦ rw q (ap (max u) (best-push L x A t) ∙ elim (cases-bool (enters L x t)) [ inl w ↦ rw w (omega arith) | inr w ↦ rw w ])
+  | inr q ↦ rw q (best-push L x A t)
+]
 
 pub best-log : (L : List Entry) (e : Entry) (x : ℕ) (A : List ℕ) → All (λ u. u ≡ e .tag → ⊥) A → best (L ++ e ∷ []) x A ≡ best L x A
 best-log L e x [] h = refl
 best-log L e x (u ∷ A) h =
     let same : enters (L ++ e ∷ []) x u ≡ enters L x u =
-          enters-push L e x u ∙ ap (λ b. enters L x u || b) (and-right (eqb (e .object) x) (eqb (e .tag) u) (ne-eqb (e .tag) u (λ q. h .0 (sym q)))) ∙ or-none (enters L x u) in
+    enters-push L e x u ∙ ap (λ b. enters L x u || b) (and-right (eqb (e .object) x) (eqb (e .tag) u) (ne-eqb (e .tag) u (λ q. h .0 (sym q)))) ∙ or-none (enters L x u) in
     rw same (ap (λ b. cond (enters L x u) (max u b) b) (best-log L e x A (h .1)))
   where
     or-none : (b : Bool) → (b || false) ≡ b
@@ -52,11 +53,10 @@ overtaken-left rs all x t v i ic = cond-both (ltb i clients && (is-open (rs i) &
     (λ r. is-open r ≡ true → rs i .object ≡ x → (all || ltb (rs i .tags x) t) ≡ false)
     (λ _ e. absurd (both-ways false refl e))
     (λ q o e. ⊎-elim (λ w. absurd (both-ways (ltb i clients) w (lt-ltb i clients ic)))
-        (λ w. ⊎-elim (λ z. absurd (both-ways (is-open (rs i)) z o))
-          (λ z. ⊎-elim (λ y. absurd (both-ways (eqb (rs i .object) x) y (eq-eqb (rs i .object) x e))) (λ y. y) (and-cases (eqb (rs i .object) x) (all || ltb (rs i .tags x) t) z))
-          (and-cases (is-open (rs i)) (eqb (rs i .object) x && (all || ltb (rs i .tags x) t)) w))
-        (and-cases (ltb i clients) (is-open (rs i) && (eqb (rs i .object) x && (all || ltb (rs i .tags x) t))) q))
-
+    (λ w. ⊎-elim (λ z. absurd (both-ways (is-open (rs i)) z o))
+    (λ z. ⊎-elim (λ y. absurd (both-ways (eqb (rs i .object) x) y (eq-eqb (rs i .object) x e))) (λ y. y) (and-cases (eqb (rs i .object) x) (all || ltb (rs i .tags x) t) z))
+    (and-cases (is-open (rs i)) (eqb (rs i .object) x && (all || ltb (rs i .tags x) t)) w))
+    (and-cases (ltb i clients) (is-open (rs i) && (eqb (rs i .object) x && (all || ltb (rs i .tags x) t))) q))
 
 module _ (g : Code) where
   pub record Peaks (L : List Entry) (A : ℕ → List ℕ) (S : State) : Type 0 where
@@ -71,12 +71,15 @@ module _ (g : Code) where
     put-peaks : (s : ℕ) (r : Server) (Ln : Lanes) → ((x : ℕ) → peak r x ≡ peak (S .servers s) x)
         → ((i : ℕ) → i < clients → live r i ≡ true → (s < g .n) → best L (r .reads i .object) (A s) ≡ r .reads i .tags (r .reads i .object)) → Peaks L A (record { servers = upd (S .servers) s r; lanes = Ln })
     put-peaks s r Ln even reads = record {
-        peaks = λ k kn x. elim (cases-eq k s) [
-          inl e ↦ rw (e, upd-same (S .servers) s r) (h .peaks s (rw e at kn) x ∙ sym (even x))
-        | inr ne ↦ rw (upd-other (S .servers) s k r ne) (h .peaks k kn x) ]
-      ; asked = λ k i kn ic lv. elim (cases-eq k s) [
-          inl e ↦ rw (e, upd-same (S .servers) s r) (reads i ic (rw (e, upd-same (S .servers) s r) at lv) (rw e at kn))
-        | inr ne ↦ rw (upd-other (S .servers) s k r ne) (h .asked k i kn ic (rw (upd-other (S .servers) s k r ne) at lv)) ] }
+      peaks = λ k kn x. elim (cases-eq k s) [
+        | inl e ↦ rw (e, upd-same (S .servers) s r) (h .peaks s (rw e at kn) x ∙ sym (even x))
+        | inr ne ↦ rw (upd-other (S .servers) s k r ne) (h .peaks k kn x)
+      ];
+      asked = λ k i kn ic lv. elim (cases-eq k s) [
+        | inl e ↦ rw (e, upd-same (S .servers) s r) (reads i ic (rw (e, upd-same (S .servers) s r) at lv) (rw e at kn))
+        | inr ne ↦ rw (upd-other (S .servers) s k r ne) (h .asked k i kn ic (rw (upd-other (S .servers) s k r ne) at lv))
+      ];
+    }
 
     -- reads as they were
     reads-same : (s : ℕ) (r : Server) → ((i : ℕ) → live r i ≡ true → r .reads i ≡ S .servers s .reads i) → (i : ℕ) → i < clients → live r i ≡ true → (s < g .n) → best L (r .reads i .object) (A s) ≡ r .reads i .tags (r .reads i .object)
@@ -86,8 +89,9 @@ module _ (g : Code) where
 
     entered-peak : (p : Server) (e : Entry) → e .tag ≤ p .own (e .object) → (x : ℕ) → max (p .own x) (top-tag x (p .history ++ e ∷ [])) ≡ peak p x
     entered-peak p e le x = rw (top-push x (p .history) e) (elim (cases-bool (eqb (e .object) x)) [
-        inl q ↦ let w = eqb-true (e .object) x q in let l : e .tag ≤ p .own x = rw w at le in rw q (omega arith)
-      | inr q ↦ rw q ])
+      | inl q ↦ let w = eqb-true (e .object) x q in let l : e .tag ≤ p .own x = rw w at le in rw q (omega arith)
+      | inr q ↦ rw q
+    ])
 
     open-peaks : (s i x : ℕ) → (i < clients → (s < g .n) × (top-tag x (S .servers s .history) < S .servers s .own x)) → Peaks L A (open-done g S s i x)
     unfolding open-done opening
@@ -95,8 +99,9 @@ module _ (g : Code) where
         let p = S .servers s in
         let nr = new-read p s x in
         put-peaks s (opening p s i x) _ (λ y. refl) (λ j jc lv sn. elim (cases-eq j i) [
-          inl e ↦ rw (e, upd-same (p .reads) i nr) (h .peaks s sn x ∙ (let l = low (rw e at jc) in let t = l .1 in omega arith))
-        | inr ne ↦ let u = upd-other (p .reads) i j nr ne in rw u (h .asked s j sn jc (rw u at lv)) ])
+          | inl e ↦ rw (e, upd-same (p .reads) i nr) (h .peaks s sn x ∙ (let l = low (rw e at jc) in let t = l .1 in omega arith))
+          | inr ne ↦ let u = upd-other (p .reads) i j nr ne in rw u (h .asked s j sn jc (rw u at lv))
+        ])
 
     pub read-peaks : (s x l : ℕ) (d : Found) → Kept (read g S s x l d)
     read-peaks s x l d = read-cases g S Kept (λ r. h) s x l d (λ _ _ _. h) (λ _ _ _ _. h) (λ sn xk lt _ _. open-peaks s (free-slot g (S .servers s)) x (λ _. (sn, lt)))
@@ -114,9 +119,10 @@ module _ (g : Code) where
         let p = S .servers s in
         let b = top-bound x t (p .history) e in
         put-peaks s (moved p s x t v) _ (λ y. elim (cases-eq y x) [
-            inl q ↦ rw (q, upd-same (p .own) x t) (omega arith)
-          | inr ne ↦ rw (upd-other (p .own) x y t ne) refl ])
-          (reads-same s (moved p s x t v) (λ i w. refl))
+          | inl q ↦ rw (q, upd-same (p .own) x t) (omega arith)
+          | inr ne ↦ rw (upd-other (p .own) x y t ne) refl
+        ])
+        (reads-same s (moved p s x t v) (λ i w. refl))
 
     enter-peaks : (s x : ℕ) (v : List ℕ) → Peaks L A (enter-done g S s (record { object = x; tag = S .servers s .own x; value = v }))
     unfolding enter-done entered
@@ -140,7 +146,7 @@ module _ (g : Code) where
         let old = top-tag y (p .history) in
         let down : new ≤ old = ⊎-elim (λ (q : new ≡ 0). omega arith) (λ q. top-bound y new (p .history) (sweep-no-new g S f s x y new q)) (top-found y (swept g p x)) in
         let up : old ≤ max (p .own y) new = ⊎-elim (λ (q : old ≡ 0). omega arith)
-              (λ q. ⊎-elim (λ w. let l = top-bound y old (swept g p x) w in omega arith) (λ w. let l = idle-low s y old sn w in omega arith) (sweep-idle g S f s x y old q)) (top-found y (p .history)) in
+        (λ q. ⊎-elim (λ w. let l = top-bound y old (swept g p x) w in omega arith) (λ w. let l = idle-low s y old sn w in omega arith) (sweep-idle g S f s x y old q)) (top-found y (p .history)) in
         omega arith
 
     sweep-done-peaks : (s x : ℕ) → s < g .n → Peaks L A (sweep-done g S s x)
@@ -160,7 +166,7 @@ module _ (g : Code) where
     unfolding take-done
     take-peaks a b r q = put-peaks b r _ (history-peak (S .servers b) r (q .own) (λ i lv y. f .reads b i lv .1 y) (q .history))
         (λ i ic lv bn. let w = q .reads i lv in
-           ap (λ z. best L z (A b)) (w .object) ∙ h .asked b i bn ic (w .was) ∙ sym (ap₂ (λ (x : ℕ) (T : ℕ → ℕ). T x) (w .object) (w .tags)))
+        ap (λ z. best L z (A b)) (w .object) ∙ h .asked b i bn ic (w .was) ∙ sym (ap₂ (λ (x : ℕ) (T : ℕ → ℕ). T x) (w .object) (w .tags)))
 
     question-peaks : (a b : ℕ) (m : Message) → Peaks L A (question-done g S a b m)
     unfolding question-done
@@ -175,17 +181,17 @@ module _ (g : Code) where
         → (v : List ℕ) (t w : ℕ) → read g S s x l d .answer ≡ Value v t w → (t ≡ best L x (A s)) × (v ≡ kept g L x t)
     read-latest R cells src val s x l d ok v t w = read-cases g S (λ z. z .answer ≡ Value v t w → (t ≡ best L x (A s)) × (v ≡ kept g L x t)) (λ r e. absurd (let q : _≡_ {A = ℕ} 0 1 = cc in omega arith)) s x l d
         (λ sn xk le e.
-          let p = S .servers s in
-          let et : top-tag x (p .history) ≡ t = cc in
-          let ev : kept g (p .history) x (top-tag x (p .history)) ≡ v = cc in
-          let b = h .peaks s sn x in
-          (omega arith, sym ev ∙ kept-right g R L (p .history) x (top-tag x (p .history)) cells (src .servers s .history) (held-top p x) ∙ ap (kept g L x) et))
+        let p = S .servers s in
+        let et : top-tag x (p .history) ≡ t = cc in
+        let ev : kept g (p .history) x (top-tag x (p .history)) ≡ v = cc in
+        let b = h .peaks s sn x in
+        (omega arith, sym ev ∙ kept-right g R L (p .history) x (top-tag x (p .history)) cells (src .servers s .history) (held-top p x) ∙ ap (kept g L x) et))
         (λ sn xk le rec e.
-          let p = S .servers s in
-          let et : p .own x ≡ t = cc in
-          let ev : d .value ≡ v = cc in
-          let b = h .peaks s sn x in
-          (omega arith, sym ev ∙ decoded-right g R L cells (only g s) (λ _. p .symbol) x (d .value) (p .own) xk (ok sn xk .decoded rec) (λ j jn q. rw (eqb-true j s q) (val .servers s sn .symbol)) ∙ ap (kept g L x) et))
+        let p = S .servers s in
+        let et : p .own x ≡ t = cc in
+        let ev : d .value ≡ v = cc in
+        let b = h .peaks s sn x in
+        (omega arith, sym ev ∙ decoded-right g R L cells (only g s) (λ _. p .symbol) x (d .value) (p .own) xk (ok sn xk .decoded rec) (λ j jn q. rw (eqb-true j s q) (val .servers s sn .symbol)) ∙ ap (kept g L x) et))
         (λ sn xk lt rec _ e. absurd (let q : _≡_ {A = ℕ} 0 1 = cc in omega arith))
       where
         held-top : (p : Server) (x : ℕ) → holds (p .history) x (top-tag x (p .history)) ≡ true

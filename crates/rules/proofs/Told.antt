@@ -144,5 +144,6 @@ given-same g es L A h x t = ap (λ l. history.value-under (g .w) l x (tag-at t))
 pub tells-push : (es : List Event) (L : List Entry) (A : ℕ → List ℕ) → Tells es L A → (e : Event) (c : Call) (a : Answer) → e .call ≡ c → e .answer ≡ answer-at a
     → Tells (es ++ e ∷ []) (L ++ accepted-by c a) (λ k. A k ++ applies k c a)
 tells-push es L A h e c a ec ea = record {
-    writes = accepted-push es e ∙ ap₂ (λ (l : List history.Entry) (m : List history.Entry). l ++ m) (h .writes) (ap₂ (λ (d : Call) (b : turns.Answer). told.accepted-by d (told.tag-told b)) ec ea ∙ accepted-same c a) ∙ sym (map-append entry-at L (accepted-by c a))
-  ; applied = λ k. applied-push k es e ∙ ap₂ (λ (l : List declared.Tag) (m : List declared.Tag). l ++ m) (h .applied k) (ap₂ (λ (d : Call) (b : turns.Answer). told.applied-by k d (told.tag-told b)) ec ea ∙ applied-same k c a) ∙ sym (map-append tag-at (A k) (applies k c a)) }
+  writes = accepted-push es e ∙ ap₂ (λ (l : List history.Entry) (m : List history.Entry). l ++ m) (h .writes) (ap₂ (λ (d : Call) (b : turns.Answer). told.accepted-by d (told.tag-told b)) ec ea ∙ accepted-same c a) ∙ sym (map-append entry-at L (accepted-by c a));
+  applied = λ k. applied-push k es e ∙ ap₂ (λ (l : List declared.Tag) (m : List declared.Tag). l ++ m) (h .applied k) (ap₂ (λ (d : Call) (b : turns.Answer). told.applied-by k d (told.tag-told b)) ec ea ∙ applied-same k c a) ∙ sym (map-append tag-at (A k) (applies k c a));
+}

@@ -74,10 +74,11 @@ module _ (g : Code) (R : Lawful g) (L : List Entry) where
   unfolding entered-value enters
   entered-right [] x t all e = absurd (both-ways false refl e)
   entered-right (d ∷ es) x t all e = elim (cases-bool (same-entry x t d)) [
-      inl q ↦ let p = and-parts (eqb (d .object) x) (eqb (d .tag) t) q in
-          cond-true (same-entry x t d) (d .value) (entered-value g es x t) q ∙ all .0 .1 ∙ ap₂ (kept g L) (eqb-true (d .object) x (p .0)) (eqb-true (d .tag) t (p .1))
+    | inl q ↦ let p = and-parts (eqb (d .object) x) (eqb (d .tag) t) q in
+        cond-true (same-entry x t d) (d .value) (entered-value g es x t) q ∙ all .0 .1 ∙ ap₂ (kept g L) (eqb-true (d .object) x (p .0)) (eqb-true (d .tag) t (p .1))
     | inr q ↦ cond-false (same-entry x t d) (d .value) (entered-value g es x t) q ∙ entered-right es x t (all .1)
-          (⊎-elim (λ w. absurd (both-ways (same-entry x t d) q w)) (λ w. w) (or-cases (same-entry x t d) (enters es x t) e)) ]
+        (⊎-elim (λ w. absurd (both-ways (same-entry x t d) q w)) (λ w. w) (or-cases (same-entry x t d) (enters es x t) e))
+  ]
 
   zero-kept : (es : List Entry) (x t : ℕ) → eqb t 0 ≡ true → kept g es x t ≡ zeros g
   unfolding kept
@@ -89,8 +90,9 @@ module _ (g : Code) (R : Lawful g) (L : List Entry) where
 
   pub kept-right : (es : List Entry) (x t : ℕ) → Cells g R L → All Of-entry es → holds es x t ≡ true → kept g es x t ≡ kept g L x t
   kept-right es x t cells all e = elim (cases-bool (eqb t 0)) [
-      inl q ↦ zero-kept es x t q ∙ sym (zero-kept L x t q)
-    | inr q ↦ past-zero es x t q ∙ entered-right es x t all (⊎-elim (λ w. absurd (both-ways (eqb t 0) q w)) (λ w. w) (or-cases (eqb t 0) (enters es x t) e)) ]
+    | inl q ↦ zero-kept es x t q ∙ sym (zero-kept L x t q)
+    | inr q ↦ past-zero es x t q ∙ entered-right es x t all (⊎-elim (λ w. absurd (both-ways (eqb t 0) q w)) (λ w. w) (or-cases (eqb t 0) (enters es x t) e))
+  ]
 
   -- the numbers in a lane are given
   abbrev Bound : Server → Server → Message → Type 0
@@ -113,9 +115,12 @@ module _ (g : Code) (R : Lawful g) (L : List Entry) where
   told-still : (a : ℕ) (p p′ r r′ : Server) → Still-reads p p′ → Still-reads r r′ → (m : Message) → Bound p r m → Told a p r m → Told a p′ r′ m
   told-still a p p′ r r′ hp hr (Written x v t ck) b h = tt
   told-still a p p′ r r′ hp hr (Tagged x t) b h = tt
-  told-still a p p′ r r′ hp hr (Question m x T) b h = (h .0, λ i e f. ⊎-elim
-      (λ (q : Same-read p p′ i). let w = h .1 i (q .was) (sym (q .number) ∙ f) in (q .object ∙ w .0, λ y yk. ap (λ (z : ℕ → ℕ). z y) (q .tags) ∙ w .1 y yk))
-      (λ (q : p .opened < p′ .reads i .number). absurd (omega arith)) (hp i e))
+  told-still a p p′ r r′ hp hr (Question m x T) b h = (
+    h .0,
+    λ i e f. ⊎-elim
+        (λ (q : Same-read p p′ i). let w = h .1 i (q .was) (sym (q .number) ∙ f) in (q .object ∙ w .0, λ y yk. ap (λ (z : ℕ → ℕ). z y) (q .tags) ∙ w .1 y yk))
+        (λ (q : p .opened < p′ .reads i .number). absurd (omega arith)) (hp i e),
+  )
   told-still a p p′ r r′ hp hr (Plain m v) b h = λ i e f. ⊎-elim
       (λ (q : Same-read r r′ i). h i (q .was) (sym (q .number) ∙ f) ∙ sym (ap₂ (λ (x : ℕ) (z : ℕ → ℕ). kept g L x (z x)) (q .object) (q .tags)))
       (λ (q : r .opened < r′ .reads i .number). absurd (omega arith)) (hr i e)
@@ -126,7 +131,7 @@ module _ (g : Code) (R : Lawful g) (L : List Entry) where
       → (a b : ℕ) → a < g .n → b < g .n → (a ≡ b → ⊥) → All (Told a (servers a) (servers b)) (S .lanes a b)
   lanes-still S servers f h still a b an bn ne =
       all-both (Bound (S .servers a) (S .servers b)) (Told a (S .servers a) (S .servers b)) (Told a (servers a) (servers b)) (S .lanes a b)
-        (told-still a (S .servers a) (servers a) (S .servers b) (servers b) (still a) (still b)) (bounds S f a b an bn ne) (h .lanes a b an bn ne)
+      (told-still a (S .servers a) (servers a) (S .servers b) (servers b) (still a) (still b)) (bounds S f a b an bn ne) (h .lanes a b an bn ne)
 
   pub put-still : (S : State) (s : ℕ) (r : Server) → Still-reads (S .servers s) r → (k : ℕ) → Still-reads (S .servers k) (upd (S .servers) s r k)
   put-still S s r h k = upd-each Still-reads (S .servers) s r still-self h k
@@ -136,5 +141,6 @@ module _ (g : Code) (R : Lawful g) (L : List Entry) where
       → ((a b : ℕ) → a < g .n → b < g .n → (a ≡ b → ⊥) → All (Told a (upd (S .servers) s r a) (upd (S .servers) s r b)) (S .lanes a b) → All (Told a (upd (S .servers) s r a) (upd (S .servers) s r b)) (Ln a b))
       → Valued (record { servers = upd (S .servers) s r; lanes = Ln })
   put-valued S s r Ln f h right still change = record {
-      servers = λ k kn. elim (cases-eq k s) [ inl e ↦ rw (e, upd-same (S .servers) s r) (right (rw e at kn)) | inr ne ↦ rw (upd-other (S .servers) s k r ne) (h .servers k kn) ]
-    ; lanes = λ a b an bn ne. change a b an bn ne (lanes-still S (upd (S .servers) s r) f h (put-still S s r still) a b an bn ne) }
+    servers = λ k kn. elim (cases-eq k s) [ inl e ↦ rw (e, upd-same (S .servers) s r) (right (rw e at kn)) | inr ne ↦ rw (upd-other (S .servers) s k r ne) (h .servers k kn) ];
+    lanes = λ a b an bn ne. change a b an bn ne (lanes-still S (upd (S .servers) s r) f h (put-still S s r still) a b an bn ne);
+  }

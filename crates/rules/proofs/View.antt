@@ -56,8 +56,16 @@ read-at r = cond (eqb (r .state) 0) Free (cond (eqb (r .state) 1) (Open (asking-
 
 abbrev pub server-at : Server → model.Server
 server-at p = record {
-    clock = p .clock; top = p .top; symbol = p .symbol; own = λ x. tag-at (p .own x); told = λ x j. tag-at (p .told x j)
-  ; history = map entry-at (p .history); waiting = map waiting-at (p .waiting); reads = λ i. read-at (p .reads i); opened = p .opened }
+  clock = p .clock;
+  top = p .top;
+  symbol = p .symbol;
+  own = λ x. tag-at (p .own x);
+  told = λ x j. tag-at (p .told x j);
+  history = map entry-at (p .history);
+  waiting = map waiting-at (p .waiting);
+  reads = λ i. read-at (p .reads i);
+  opened = p .opened;
+}
 
 abbrev pub lanes-at : Lanes → lanes.Lanes Meaning
 lanes-at L a b = map message-at (L a b)
@@ -219,8 +227,9 @@ pub data Shape (r : Read) : Type 0 where
 
 pub shape : (r : Read) → Shape r
 shape r = elim (cases-bool (eqb (r .state) 0)) [
-    inl q ↦ shape-free q (let z : eqb (r .state) 1 ≡ false = grind (arith, tells) in z) (rw q)
-  | inr q ↦ elim (cases-bool (eqb (r .state) 1)) [ inl w ↦ shape-open q w (rw (q, w)) | inr w ↦ shape-answered q w (rw (q, w)) ] ]
+  | inl q ↦ shape-free q (let z : eqb (r .state) 1 ≡ false = grind (arith, tells) in z) (rw q)
+  | inr q ↦ elim (cases-bool (eqb (r .state) 1)) [ inl w ↦ shape-open q w (rw (q, w)) | inr w ↦ shape-answered q w (rw (q, w)) ]
+]
 
 -- ---- lanes
 

@@ -27,10 +27,11 @@ module _ (g : Code) (S : State) (h : Waits g S) where
 
   put-waits : (s : ℕ) (r : Server) (Ln : Lanes) → ((i : ℕ) → live r i ≡ true → s < g .n → (r .reads i ≡ S .servers s .reads i) ⊎ (Recovers g (r .reads i .hand) (r .reads i .object) → ⊥)) → Waits g (record { servers = upd (S .servers) s r; lanes = Ln })
   put-waits s r Ln reads k i kn = elim (cases-eq k s) [
-      inl e ↦ rw (e, upd-same (S .servers) s r) (λ lv. let sn : s < g .n = rw e at kn in ⊎-elim (λ (q : r .reads i ≡ S .servers s .reads i).
-          let a = and-parts (ltb i slots) (is-open (r .reads i)) lv in
-          rw q (h s i sn (and-from (ltb i slots) (is-open (S .servers s .reads i)) (a .0) (ap is-open (sym q) ∙ a .1)))) (λ q. q) (reads i lv sn))
-    | inr ne ↦ rw (upd-other (S .servers) s k r ne) (h k i kn) ]
+    | inl e ↦ rw (e, upd-same (S .servers) s r) (λ lv. let sn : s < g .n = rw e at kn in ⊎-elim (λ (q : r .reads i ≡ S .servers s .reads i).
+        let a = and-parts (ltb i slots) (is-open (r .reads i)) lv in
+        rw q (h s i sn (and-from (ltb i slots) (is-open (S .servers s .reads i)) (a .0) (ap is-open (sym q) ∙ a .1)))) (λ q. q) (reads i lv sn))
+    | inr ne ↦ rw (upd-other (S .servers) s k r ne) (h k i kn)
+  ]
 
   write-done-waits : (s x : ℕ) (v : List ℕ) → Waits g (write-done g S s x v)
   unfolding write-done reading entered counted
@@ -43,8 +44,9 @@ module _ (g : Code) (S : State) (h : Waits g S) where
   open-waits : (s i x : ℕ) → (Recovers g (only g s) x → ⊥) → Waits g (open-done g S s i x)
   unfolding open-done opening
   open-waits s i x closed = put-waits s (opening (S .servers s) s i x) (S .lanes) (λ j lv _. elim (cases-eq j i) [
-      inl e ↦ inr (rw (e, upd-same (S .servers s .reads) i (new-read (S .servers s) s x)) closed)
-    | inr ne ↦ inl (upd-other (S .servers s .reads) i j (new-read (S .servers s) s x) ne) ])
+    | inl e ↦ inr (rw (e, upd-same (S .servers s .reads) i (new-read (S .servers s) s x)) closed)
+    | inr ne ↦ inl (upd-other (S .servers s .reads) i j (new-read (S .servers s) s x) ne)
+  ])
 
   collect-done-waits : (s i : ℕ) → Waits g (collect-done g S s i)
   unfolding collect-done reading
@@ -73,8 +75,9 @@ module _ (g : Code) (S : State) (h : Waits g S) where
   hand-waits : (a b i : ℕ) (r : Read) → (Recovers g (r .hand) (r .object) → ⊥) → Waits g (take-done g S a b (reading (S .servers b) (upd (S .servers b .reads) i r)))
   unfolding take-done reading
   hand-waits a b i r closed = put-waits b (reading (S .servers b) (upd (S .servers b .reads) i r)) (S .lanes) (λ j lv _. elim (cases-eq j i) [
-      inl e ↦ inr (rw (e, upd-same (S .servers b .reads) i r) closed)
-    | inr ne ↦ inl (upd-other (S .servers b .reads) i j r ne) ])
+    | inl e ↦ inr (rw (e, upd-same (S .servers b .reads) i r) closed)
+    | inr ne ↦ inl (upd-other (S .servers b .reads) i j r ne)
+  ])
 
   pub step-waits : (c : Call) (f : Found) → Allowed g S c f → Waits g (step g S c f .next)
   step-waits (Write s x v) f ok = write-cases g S Kept (λ r. h) s x v (λ _. write-done-waits s x v)
@@ -83,10 +86,10 @@ module _ (g : Code) (S : State) (h : Waits g S) where
   step-waits (Collect s m l) f ok = collect-cases g S Kept (λ r. h) s m l h (λ i _ _ _ _. collect-done-waits s i)
   step-waits (Deliver a b) f ok = deliver-cases g S Kept (λ r. h) a b f (λ o r _ er. take-waits a b r er)
       (λ m v st ms an bn e lt no-rec mend _.
-        let p = S .servers b in
-        let i = open-slot g p m in
-        let r = in-hand (p .reads i) a (mended g p a (p .reads i) v st (g .k)) in
-        hand-waits a b i r (not-recovered g (r .hand) (r .symbols) (r .object) f (ok (Coded m v st) ms e an bn lt mend) no-rec))
+      let p = S .servers b in
+      let i = open-slot g p m in
+      let r = in-hand (p .reads i) a (mended g p a (p .reads i) v st (g .k)) in
+      hand-waits a b i r (not-recovered g (r .hand) (r .symbols) (r .object) f (ok (Coded m v st) ms e an bn lt mend) no-rec))
       (λ o m x T. question-waits a b (reply g b (S .servers b) m x T))
   step-waits (Apply s) f ok = apply-cases g S Kept (λ r. h) s h (λ b _. apply-done-waits s (b .write) (b .others))
   step-waits (Encode s x) f ok = encode-cases g S Kept (λ r. h) s x f (λ o _. h) (λ t v _ _ _ _. move-waits s x t v) (λ _ _ _. enter-waits s (record { object = x; tag = S .servers s .own x; value = f .value }))

@@ -4,7 +4,6 @@ use mathlib.Core.Bool.{Bool, true}
 use mathlib.Core.List.{List, [], _∷_}
 use Prim.Native.Nat.{ℕ, _<_}
 use lib.Dec.{eqb}
-use lib.ListN.{getD}
 use Rattle.std.specs.Orderings.{Decides}
 use Rattle.std.specs.declared.option.Option.{Option}
 use Rattle.std.specs.declared.option.Option.the-variants.{None, Some}
@@ -13,7 +12,7 @@ use Rattle.message.specs.Meanings.{Meaning, write-notice, tag-notice, question,
 use Rattle.code.specs.Recovery.{Recovers, Decoded}
 use Rattle.rules.specs.State.{Layout, Asking, Read, Free, Open, Answered, Server, State}
 use Rattle.rules.specs.Updates.{in-hand}
-use Rattle.rules.specs.Turns.{Call, Write, Read as ReadCall, Collect, Deliver, Apply, Encode, Sweep, Answer, Found, Turn}
+use Rattle.rules.specs.Turns.{Call, Write, Read as ReadCall, Collect, Deliver, Apply, Encode, Sweep, Found, Turn}
 use Rattle.rules.specs.Writing.{write, apply}
 use Rattle.rules.specs.Reading.{read, collect}
 use Rattle.rules.specs.Encoding.{encode, sweep}
