@@ -44,4 +44,5 @@ pub mod Overtaking
 pub mod Replying
 pub mod FollowSteps
 pub mod Standing
+pub mod Refusing
 pub mod Figures
