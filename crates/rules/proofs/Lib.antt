@@ -44,5 +44,6 @@ pub mod Overtaking
 pub mod Replying
 pub mod FollowSteps
 pub mod Standing
+pub mod Pushing
 pub mod Refusing
 pub mod Figures

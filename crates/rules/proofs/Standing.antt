@@ -465,4 +465,5 @@ module _ (g : Code) (R : Lawful g) (es : List Event) (seen : model.State) (h : S
 
 -- the run law
 pub run-law : rule.Run-law
-run-law l r a done later ok = let R = lawful l r a in law-from (code-of l) R _ _ (run-stands (code-of l) R [] (new-group l) (new-stands (code-of l) R) done later ok)
+run-law l r a ms ok done later e = let R = lawful l r a in
+    law-from (code-of l) R _ _ (run-stands (code-of l) R [] (new-group l) (new-stands (code-of l) R) done later (subst (runs.Allowed-run l (new-group l)) e ok))

@@ -91,12 +91,10 @@ module _ (l : Layout) where
     pub past-applied : Past-applied es
     pub tags-differ : Tags-differ es
 
--- After each call of every run: a run is made of the calls done so far and the later ones, on a new group, and P holds after those done,
--- over every field, every accepted code and every run.
-abbrev pub Always : (Layout → List Event → State → Type 0) → Type 0
-Always P = (l : Layout) → Ring (l .code .arithmetic) → Accepted (l .code) → (done later : List Move) → Allowed-run l (new-group l) (done ++ later)
-    → P l (events l (new-group l) done) (run l (new-group l) done)
+-- P holds after each call of the run ms: of the events and of the state after the calls done so far, whichever come later.
+abbrev pub After-each : (Layout → List Event → State → Type 0) → Layout → List Move → Type 0
+After-each P l ms = (done later : List Move) → ms ≡ done ++ later → P l (events l (new-group l) done) (run l (new-group l) done)
 
--- The run law.
+-- The run law: over every field, every accepted code and every run of a new group, the law holds after each call.
 abbrev pub Run-law : Type 0
-Run-law = Always Law
+Run-law = (l : Layout) → Ring (l .code .arithmetic) → Accepted (l .code) → (ms : List Move) → Allowed-run l (new-group l) ms → After-each Law l ms
