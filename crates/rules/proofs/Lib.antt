@@ -46,4 +46,5 @@ pub mod FollowSteps
 pub mod Standing
 pub mod Pushing
 pub mod Refusing
+pub mod Placing
 pub mod Figures

@@ -11,4 +11,5 @@ pub mod Delivering
 pub mod Runs
 pub mod Events
 pub mod Law
+pub mod Places
 pub mod Figures
