@@ -35,15 +35,19 @@ waiting-write a x v h clock = record { object = x; tag = record { height = h; se
 module _ (l : Layout) where
   -- ---- whether a message fits the group: the ranges of messages, and the group's own sizes
 
+  -- W elements
   abbrev pub fits-value : List ℕ → Bool
   fits-value v = eqb (length v) (l .code .cells) && elements l v
 
+  -- the tag of one of the group's servers
   abbrev pub fits-tag : Tag → Bool
   fits-tag t = ltb (t .server) (l .code .servers)
 
+  -- a tag for each object
   abbrev pub fits-tags : List Tag → Bool
   fits-tags ts = eqb (length ts) (l .code .objects) && each fits-tag ts
 
+  -- by the group's own sizes
   unfoldable pub fits-group : Meaning → Bool
   fits-group (write-notice x v h clock) = ltb x (l .code .objects) && (fits-value v && eqb (length clock) (l .code .servers))
   fits-group (tag-notice x t) = ltb x (l .code .objects) && fits-tag t
@@ -51,6 +55,7 @@ module _ (l : Layout) where
   fits-group (plain-reply m v) = fits-value v
   fits-group (coded-reply m v stated) = fits-value v && fits-tags stated
 
+  -- the message fits
   unfoldable pub fits : Meaning → Bool
   fits m = in-range m && fits-group m
 
@@ -82,6 +87,7 @@ module _ (l : Layout) where
       (plain-reply m (value-under (l .code .cells) (p .history) x (getD ts x zero-tag)))
       (coded-reply m (restated s p ts (l .code .objects)) (listed (l .code .objects) (λ y. stated s p y (getD ts y zero-tag))))
 
+  -- the oldest message of the lane from a to b is taken, and the reply m goes back
   unfoldable pub question-done : State → ℕ → ℕ → Meaning → State
   question-done S a b m = record { servers = S .servers; lanes = posted (taken (S .lanes) a b) b a m }
 
@@ -91,9 +97,11 @@ module _ (l : Layout) where
   abbrev pub internal-answer : Server → ℕ → Asking → List ℕ → Server
   internal-answer p i r v = reading (entered p (record { object = r .object; tag = r .tags (r .object); value = v })) (upd (p .reads) i Free)
 
+  -- a client's
   abbrev pub client-answer : Server → ℕ → Asking → List ℕ → Server
   client-answer p i r v = reading p (upd (p .reads) i (answered r v (r .tags (r .object)) 3))
 
+  -- the open read r at the place i is answered by v
   unfoldable pub settle : State → ℕ → ℕ → ℕ → Asking → List ℕ → Turn
   settle S a b i r v =
       let p = S .servers b in
@@ -108,6 +116,7 @@ module _ (l : Layout) where
       (cond (holds (p .history) y t && holds (p .history) y (r .tags y)) (Some (turned l a p y t (r .tags y) v)) None)
       (Some v)
 
+  -- one object more, if all before could be mended
   abbrev pub mended-next : Server → ℕ → Asking → List Tag → ℕ → Option (List ℕ) → Option (List ℕ)
   mended-next p a r ts y None = None
   mended-next p a r ts y (Some v) = mended-at p a r ts y v
@@ -117,6 +126,7 @@ module _ (l : Layout) where
   mended p a r v ts zero = Some v
   mended p a r v ts (suc y) = mended-next p a r ts y (mended p a r v ts y)
 
+  -- a coded reply, by whether its symbol could be mended
   abbrev pub by-symbol : State → ℕ → ℕ → ℕ → Asking → Found → Option (List ℕ) → Turn
   by-symbol S a b i r f None = turn (Outcome 6) (take-done S a b (S .servers b))
   by-symbol S a b i r f (Some v) =
@@ -127,26 +137,31 @@ module _ (l : Layout) where
   abbrev pub dropped : State → ℕ → ℕ → Turn
   dropped S a b = turn (Outcome 5) (take-done S a b (S .servers b))
 
+  -- a plain reply, by the read at the place
   abbrev pub plain-to : State → ℕ → ℕ → ℕ → List ℕ → Read → Turn
   plain-to S a b i v Free = dropped S a b
   plain-to S a b i v (Open r) = settle S a b i r v
   plain-to S a b i v (Answered r) = dropped S a b
 
+  -- a plain reply, by the place of its read
   abbrev pub plain-at : State → ℕ → ℕ → List ℕ → Option ℕ → Turn
   plain-at S a b v None = dropped S a b
   plain-at S a b v (Some i) = plain-to S a b i v (S .servers b .reads i)
 
+  -- a coded reply, by the read at the place
   abbrev pub coded-to : State → ℕ → ℕ → ℕ → List ℕ → List Tag → Found → Read → Turn
   coded-to S a b i v ts f Free = dropped S a b
   coded-to S a b i v ts f (Open r) = by-symbol S a b i r f (mended (S .servers b) a r v ts (l .code .objects))
   coded-to S a b i v ts f (Answered r) = dropped S a b
 
+  -- a coded reply, by the place of its read
   abbrev pub coded-at : State → ℕ → ℕ → List ℕ → List Tag → Found → Option ℕ → Turn
   coded-at S a b v ts f None = dropped S a b
   coded-at S a b v ts f (Some i) = coded-to S a b i v ts f (S .servers b .reads i)
 
   -- ---- the message m from a arrives at b
 
+  -- the step of each kind
   unfoldable pub got : State → ℕ → ℕ → Meaning → Found → Turn
   got S a b (write-notice x v h clock) f =
       let p = S .servers b in
@@ -160,12 +175,15 @@ module _ (l : Layout) where
   got S a b (plain-reply m v) f = plain-at S a b v (open-place (S .servers b) m)
   got S a b (coded-reply m v ts) f = coded-at S a b v ts f (open-place (S .servers b) m)
 
+  -- by the oldest message of the lane
   unfoldable pub oldest : State → ℕ → ℕ → List Meaning → Found → Turn
   oldest S a b [] f = turn (Refused LaneEmpty) S
   oldest S a b (m ∷ ms) f = cond (fits m) (got S a b m f) (turn (Outcome 7) (take-done S a b (S .servers b)))
 
+  -- why a deliver is refused
   unfoldable pub lane-refusal : ℕ → ℕ → Option Refusal
   lane-refusal a b = check (ltb a (l .code .servers) && ltb b (l .code .servers)) NoSuchServer (check (not (eqb a b)) EqualEnds None)
 
+  -- the call
   unfoldable pub deliver : State → ℕ → ℕ → Found → Turn
   deliver S a b f = unless (lane-refusal a b) S (oldest S a b (S .lanes a b) f)

@@ -35,6 +35,7 @@ asks x t (Open a) = same (a .tags x) t
 asks x t (Answered r) = false
 
 module _ (l : Layout) where
+  -- why a call on an object is refused
   unfoldable pub object-refusal : ℕ → ℕ → Option Refusal
   object-refusal s x = check (ltb s (l .code .servers)) NoSuchServer (check (ltb x (l .code .objects)) NoSuchObject None)
 
@@ -44,6 +45,7 @@ module _ (l : Layout) where
   unfoldable pub move-done : State → ℕ → ℕ → Tag → List ℕ → State
   move-done S s x t v = put S s (moved (S .servers s) s x t v) (spread (S .lanes) s (l .code .servers) (tag-notice x t))
 
+  -- an entry more
   unfoldable pub enter-done : State → ℕ → Entry → State
   enter-done S s e = put S s (entered (S .servers s) e) (S .lanes)
 
@@ -51,6 +53,7 @@ module _ (l : Layout) where
   abbrev pub turned : ℕ → Server → ℕ → Tag → Tag → List ℕ → List ℕ
   turned s p x t u symbol = re-encoded (l .code) s x symbol (value-under (l .code .cells) (p .history) x t) (value-under (l .code .cells) (p .history) x u)
 
+  -- an object that the server contains
   unfoldable pub encode-contained : State → ℕ → ℕ → Found → Turn
   encode-contained S s x f =
       let p = S .servers s in
@@ -68,12 +71,14 @@ module _ (l : Layout) where
   abbrev pub within : Server → ℕ → Tag → Bool
   within p x t = every (l .code .servers) (λ j. not (contains (l .code) j x) || not (lower (p .told x j) t))
 
+  -- an object that it does not contain
   unfoldable pub encode-other : State → ℕ → ℕ → Turn
   encode-other S s x =
       let p = S .servers s in
       let t = highest (within p x) x (p .history) in
       cond (lower (p .own x) t) (unless (check (room l S s) LaneFull None) S (turn (Outcome 1) (move-done S s x t (p .symbol)))) (turn (Outcome 0) S)
 
+  -- the call
   unfoldable pub encode : State → ℕ → ℕ → Found → Turn
   encode S s x f = unless (object-refusal s x) S (cond (contains (l .code) s x) (encode-contained S s x f) (encode-other S s x))
 
@@ -101,8 +106,10 @@ module _ (l : Layout) where
       let es = kept-by (stays p x) (p .history) in
       cond (settled p x es) (kept-by (λ e. not (is-entry x (p .own x) e)) es) es
 
+  -- what a sweep leaves
   unfoldable pub sweep-done : State → ℕ → ℕ → State
   sweep-done S s x = put S s (sifted (S .servers s) (swept (S .servers s) x)) (S .lanes)
 
+  -- the call
   unfoldable pub sweep : State → ℕ → ℕ → Turn
   sweep S s x = unless (object-refusal s x) S (turn (Removed (length (S .servers s .history) - length (swept (S .servers s) x))) (sweep-done S s x))

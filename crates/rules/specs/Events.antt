@@ -20,10 +20,12 @@ pub record Event : Type 0 where
   pub answer : Answer
   pub oldest : Option Meaning
 
+-- the oldest of some messages
 abbrev pub first-of : List Meaning → Option Meaning
 first-of [] = None
 first-of (m ∷ ms) = Some m
 
+-- the oldest message of the lane of a deliver
 abbrev pub oldest-of : State → Call → Option Meaning
 oldest-of S (Write s x v) = None
 oldest-of S (Read s x cells) = None
@@ -33,6 +35,7 @@ oldest-of S (Apply s) = None
 oldest-of S (Encode s x) = None
 oldest-of S (Sweep s x) = None
 
+-- the event of a call
 abbrev pub event : Layout → State → Move → Event
 event l S m = record { call = m .call; answer = step l S (m .call) (m .found) .answer; oldest = oldest-of S (m .call) }
 
@@ -43,6 +46,7 @@ events l S (m ∷ ms) = event l S m ∷ events l (after l S m) ms
 
 -- ---- what an answer tells
 
+-- the tag that a write or an apply answered
 abbrev pub tag-told : Answer → Option Tag
 tag-told (Refused r) = None
 tag-told (Tagged t) = Some t
@@ -64,6 +68,7 @@ opened-read Nothing-ready = false
 opened-read (Outcome o) = eqb o 4
 opened-read (Removed c) = false
 
+-- outcome 4
 abbrev pub is-outcome-4 : Answer → Bool
 is-outcome-4 (Refused r) = false
 is-outcome-4 (Tagged t) = false
@@ -74,6 +79,7 @@ is-outcome-4 Nothing-ready = false
 is-outcome-4 (Outcome o) = eqb o 4
 is-outcome-4 (Removed c) = false
 
+-- the call was refused
 abbrev pub is-refused : Answer → Bool
 is-refused (Refused r) = true
 is-refused (Tagged t) = false
@@ -148,6 +154,7 @@ pub record Followed : Type 0 where
   pub tag : Tag
   pub value : List ℕ
 
+-- a read of x that was just opened
 abbrev pub just-opened : ℕ → Bool → Followed
 just-opened x client = record { object = x; client = client; is-open = true; repliers = λ _. false; tag = zero-tag; value = [] }
 
@@ -193,6 +200,7 @@ module _ (l : Layout) where
       (cond (is-outcome-4 (e .answer)) (closed s (es ++ e ∷ []) (replied a r)) (replied a r))
       r
 
+  -- a write or an apply comes to a read
   abbrev pub follow-write : ℕ → List Event → Event → Followed → Followed
   follow-write s es e r =
       let after = es ++ e ∷ [] in

@@ -18,9 +18,11 @@ pub record Entry : Type 0 where
 abbrev pub zero-record : ℕ → List ℕ
 zero-record cells = listed cells (λ _. 0)
 
+-- the entry is that of x under t
 abbrev pub is-entry : ℕ → Tag → Entry → Bool
 is-entry x t e = eqb (e .object) x && same (e .tag) t
 
+-- there is an entry of x under t
 unfoldable pub has-entry : List Entry → ℕ → Tag → Bool
 has-entry [] x t = false
 has-entry (e ∷ es) x t = is-entry x t e || has-entry es x t
@@ -42,6 +44,7 @@ value-under cells es x t = cond (same t zero-tag) (zero-record cells) (entered-v
 abbrev pub later : Tag → Tag → Tag
 later s t = cond (lower s t) t s
 
+-- the earlier of two tags
 abbrev pub earlier : Tag → Tag → Tag
 earlier s t = cond (lower s t) s t
 

@@ -49,6 +49,7 @@ module _ (l : Layout) where
   abbrev pub Reads-numbered : List Event → Type 0
   Reads-numbered es = Each-event es (λ before e. (s x cells m : ℕ) → e .call ≡ Read s x cells → e .answer ≡ Numbered m → m ≡ suc (length (reads-of l s before)))
 
+  -- the read with the number p + 1
   abbrev pub read-at : ℕ → List Event → ℕ → Followed
   read-at s es p = getD (reads-of l s es) p (just-opened 0 false)
 

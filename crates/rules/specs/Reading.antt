@@ -36,14 +36,17 @@ module _ (l : Layout) where
       let p = S .servers s in
       put S s (opening p s i x) (spread (S .lanes) s (l .code .servers) (question (p .opened + 1) x (listed (l .code .objects) (p .own))))
 
+  -- why a read is not opened
   abbrev pub open-refusal : State → ℕ → Option ℕ → Option Refusal
   open-refusal S s place =
       check (ltb (S .servers s .opened) max-read) NumbersUsedUp (check (isSome place) ReadsFull (check (room l S s) LaneFull None))
 
+  -- the read is opened at a place, if there is one
   abbrev pub opened-at : State → ℕ → ℕ → Option ℕ → State
   opened-at S s x None = S
   opened-at S s x (Some i) = open-done S s i x
 
+  -- a read that cannot be answered at once
   unfoldable pub open-read : State → ℕ → ℕ → Turn
   open-read S s x =
       let place = free-place (S .servers s) in
@@ -57,10 +60,12 @@ module _ (l : Layout) where
   abbrev pub from-symbol : Server → ℕ → Found → Bool
   from-symbol p x f = not (lower (p .own x) (highest-held (p .history) x)) && f .recovered
 
+  -- why a read is refused
   unfoldable pub read-refusal : ℕ → ℕ → ℕ → Option Refusal
   read-refusal s x cells =
       check (ltb s (l .code .servers)) NoSuchServer (check (ltb x (l .code .objects)) NoSuchObject (check (eqb cells (l .code .cells)) WrongLength None))
 
+  -- a read that is not refused: answered by one of the two ways, or opened
   unfoldable pub read-found : State → ℕ → ℕ → Found → Turn
   read-found S s x f =
       let p = S .servers s in
@@ -69,26 +74,32 @@ module _ (l : Layout) where
       (cond (from-symbol p x f) (turn (Valued (f .value) (p .own x) 2) S)
       (open-read S s x))
 
+  -- the call
   unfoldable pub read : State → ℕ → ℕ → ℕ → Found → Turn
   read S s x cells f = unless (read-refusal s x cells) S (read-found S s x f)
 
   -- ---- collect
 
+  -- the place i is free again
   unfoldable pub collect-done : State → ℕ → ℕ → State
   collect-done S s i = put S s (reading (S .servers s) (upd (S .servers s .reads) i Free)) (S .lanes)
 
+  -- by what is at the place
   abbrev pub collect-read : State → ℕ → ℕ → Read → Turn
   collect-read S s i Free = turn Still-open S
   collect-read S s i (Open a) = turn Still-open S
   collect-read S s i (Answered r) = turn (Valued (r .value) (r .tag) (r .way)) (collect-done S s i)
 
+  -- by the place, if there is one
   abbrev pub collect-at : State → ℕ → Option ℕ → Turn
   collect-at S s None = turn Still-open S
   collect-at S s (Some i) = collect-read S s i (S .servers s .reads i)
 
+  -- why a collect is refused
   abbrev pub collect-refusal : ℕ → ℕ → Option ℕ → Option Refusal
   collect-refusal s cells place =
       check (ltb s (l .code .servers)) NoSuchServer (check (eqb cells (l .code .cells)) WrongLength (check (isSome place) NoSuchRead None))
 
+  -- the call
   unfoldable pub collect : State → ℕ → ℕ → ℕ → Turn
   collect S s m cells = let place = client-place (S .servers s) m in unless (collect-refusal s cells place) S (collect-at S s place)

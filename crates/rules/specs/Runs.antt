@@ -25,6 +25,7 @@ pub record Move : Type 0 where
   pub found : Found
 
 module _ (l : Layout) where
+  -- the step of a call
   abbrev pub step : State → Call → Found → Turn
   step S (Write s x v) f = write l S s x v
   step S (ReadCall s x cells) f = read l S s x cells f
@@ -34,9 +35,11 @@ module _ (l : Layout) where
   step S (Encode s x) f = encode l S s x f
   step S (Sweep s x) f = sweep l S s x
 
+  -- the state after a call
   abbrev pub after : State → Move → State
   after S m = step S (m .call) (m .found) .next
 
+  -- the state after a run
   abbrev pub run : State → List Move → State
   run S [] = S
   run S (m ∷ ms) = run (after S m) ms
@@ -56,15 +59,18 @@ module _ (l : Layout) where
   abbrev pub Tested-hand : Asking → Found → Type 0
   Tested-hand r f = Tested (r .hand) (r .symbols) (r .object) f
 
+  -- by whether the symbol could be mended
   abbrev pub Allowed-symbol : ℕ → Asking → Found → Option (List ℕ) → Type 0
   Allowed-symbol a r f None = Unit {0}
   Allowed-symbol a r f (Some v) = Tested-hand (in-hand r a v) f
 
+  -- by the read at the place
   abbrev pub Allowed-read : Server → ℕ → List ℕ → List Tag → Found → Read → Type 0
   Allowed-read p a v ts f Free = Unit {0}
   Allowed-read p a v ts f (Open r) = Allowed-symbol a r f (mended l p a r v ts (l .code .objects))
   Allowed-read p a v ts f (Answered r) = Unit {0}
 
+  -- by the place of the read
   abbrev pub Allowed-place : Server → ℕ → List ℕ → List Tag → Found → Option ℕ → Type 0
   Allowed-place p a v ts f None = Unit {0}
   Allowed-place p a v ts f (Some i) = Allowed-read p a v ts f (p .reads i)

@@ -47,6 +47,7 @@ pub data Read : Type 0 where
 abbrev pub all-reads : ℕ
 all-reads = max-client-reads + max-objects
 
+-- the place of the internal read of x
 abbrev pub internal : ℕ → ℕ
 internal x = max-client-reads + x
 
@@ -72,6 +73,7 @@ pub record State : Type 0 where
 
 -- ---- a new group: all is zero or empty
 
+-- a new server
 abbrev pub new-server : ℕ → Server
 new-server cells = record {
   clock = λ _. 0;
@@ -85,5 +87,6 @@ new-server cells = record {
   opened = 0;
 }
 
+-- a new group
 abbrev pub new-group : Layout → State
 new-group l = record { servers = λ _. new-server (l .code .cells); lanes = λ _ _. [] }

@@ -48,6 +48,7 @@ pub record Turn : Type 0 where
   pub answer : Answer
   pub next : State
 
+-- a turn by its parts
 abbrev pub turn : Answer → State → Turn
 turn a S = record { answer = a; next = S }
 

@@ -128,6 +128,7 @@ opening p s i x = record {
   opened = p .opened + 1;
 }
 
+-- the read is answered by v under t
 abbrev pub answered : Asking → List ℕ → Tag → ℕ → Read
 answered a v t way = Answered (record { number = a .number; value = v; tag = t; way = way })
 
@@ -147,11 +148,13 @@ overtaken rs all x t v i = cond (ltb i max-client-reads) (newer all x t v (rs i)
 
 -- ---- which reads
 
+-- the place is free
 abbrev pub is-free : Read → Bool
 is-free Free = true
 is-free (Open a) = false
 is-free (Answered r) = false
 
+-- the place has an open read
 abbrev pub is-open : Read → Bool
 is-open Free = false
 is-open (Open a) = true

@@ -19,6 +19,7 @@ unfoldable pub some : ℕ → (ℕ → Bool) → Bool
 some zero test = false
 some (suc n) test = some n test || test n
 
+-- the one found, or else the other
 abbrev pub or-else : Option ℕ → Option ℕ → Option ℕ
 or-else None other = other
 or-else (Some i) other = Some i

@@ -23,6 +23,7 @@ use Rattle.rules.specs.Turns.{Turn, turn, check, unless, Tagged, Nothing-ready
 abbrev pub put : State → ℕ → Server → Lanes Meaning → State
 put S s p L = record { servers = upd (S .servers) s p; lanes = L }
 
+-- the history of s has a free place
 abbrev pub history-room : State → ℕ → Bool
 history-room S s = ltb (length (S .servers s .history)) max-entries
 
@@ -30,9 +31,11 @@ history-room S s = ltb (length (S .servers s .history)) max-entries
 abbrev pub write-tag : Server → ℕ → Tag
 write-tag p s = record { height = p .top + 1; server = s }
 
+-- what stands past the waiting writes
 abbrev pub no-write : Waiting
 no-write = record { object = 0; tag = zero-tag; value = []; clock = [] }
 
+-- the waiting write at the place i
 abbrev pub write-at : List Waiting → ℕ → Waiting
 write-at ws i = getD ws i no-write
 
@@ -41,6 +44,7 @@ abbrev pub better : List Waiting → Option ℕ → ℕ → Option ℕ
 better ws None i = Some i
 better ws (Some b) i = cond (lower (write-at ws i .tag) (write-at ws b .tag)) (Some i) (Some b)
 
+-- the waiting writes but the one at the place i
 abbrev pub without : List Waiting → ℕ → List Waiting
 without ws i = take i ws ++ drop (suc i) ws
 
@@ -55,6 +59,7 @@ module _ (l : Layout) where
 
   -- ---- write
 
+  -- what an accepted write leaves
   unfoldable pub write-done : State → ℕ → ℕ → List ℕ → State
   write-done S s x v =
       let p = S .servers s in
@@ -63,6 +68,7 @@ module _ (l : Layout) where
       put S s (reading (entered c (record { object = x; tag = t; value = v })) (overtaken (p .reads) true x t v))
       (spread (S .lanes) s (l .code .servers) (write-notice x v (p .top + 1) (listed (l .code .servers) (c .clock))))
 
+  -- why a write is refused
   unfoldable pub write-refusal : State → ℕ → ℕ → List ℕ → Option Refusal
   write-refusal S s x v =
       check (ltb s (l .code .servers)) NoSuchServer
@@ -74,6 +80,7 @@ module _ (l : Layout) where
       (check (room S s) LaneFull
       None))))))
 
+  -- the call
   unfoldable pub write : State → ℕ → ℕ → List ℕ → Turn
   write S s x v = unless (write-refusal S s x v) S (turn (Tagged (write-tag (S .servers s) s)) (write-done S s x v))
 
@@ -83,6 +90,7 @@ module _ (l : Layout) where
   abbrev pub fits-at : Server → Waiting → ℕ → Bool
   fits-at p w j = cond (eqb j (w .tag .server)) (eqb (getD (w .clock) j 0) (p .clock j + 1)) (leb (getD (w .clock) j 0) (p .clock j))
 
+  -- the write w is ready at p
   abbrev pub is-ready : Server → Waiting → Bool
   is-ready p w = every (l .code .servers) (fits-at p w)
 
@@ -99,12 +107,14 @@ module _ (l : Layout) where
       put S s (reading (entered (counted (queued p ws) j (getD (w .clock) j 0) (w .tag .height)) (record { object = w .object; tag = w .tag; value = w .value }))
       (overtaken (p .reads) false (w .object) (w .tag) (w .value))) (S .lanes)
 
+  -- the write at a place is applied, if there is one
   abbrev pub apply-at : State → ℕ → Option ℕ → Turn
   apply-at S s None = turn Nothing-ready S
   apply-at S s (Some i) =
       let ws = S .servers s .waiting in
       unless (check (history-room S s) HistoryFull None) S (turn (Tagged (write-at ws i .tag)) (apply-done S s (write-at ws i) (without ws i)))
 
+  -- the call
   unfoldable pub apply : State → ℕ → Turn
   apply S s = let p = S .servers s in
       unless (check (ltb s (l .code .servers)) NoSuchServer None) S (apply-at S s (next-ready p (p .waiting) (length (p .waiting))))
