@@ -36,6 +36,16 @@ max-count = 1000000
 abbrev pub max-read : ℕ
 max-read = 1000000
 
+-- a server's tables: entries of the history, waiting writes, reads of clients
+abbrev pub max-entries : ℕ
+max-entries = 64
+
+abbrev pub max-waiting : ℕ
+max-waiting = 32
+
+abbrev pub max-client-reads : ℕ
+max-client-reads = 8
+
 -- there is a lane from each server to each other
 abbrev pub max-lanes : ℕ
 max-lanes = max-servers * (max-servers - 1)

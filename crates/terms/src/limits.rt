@@ -27,6 +27,13 @@ pub const MAX_COUNT: u32 = 1_000_000;
 
 pub const MAX_READ: u32 = 1_000_000;
 
+// A server's tables: at most 64 entries of the history, 32 waiting writes and 8 reads of clients.
+pub const MAX_ENTRIES: usize = 64;
+
+pub const MAX_WAITING: usize = 32;
+
+pub const MAX_CLIENT_READS: usize = 8;
+
 // There is a lane from each server to each other.
 pub const MAX_LANES: usize = MAX_SERVERS * (MAX_SERVERS - 1);
 

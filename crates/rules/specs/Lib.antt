@@ -1,0 +1,14 @@
+pub mod Words
+pub mod Lanes
+pub mod Histories
+pub mod State
+pub mod Turns
+pub mod Updates
+pub mod Writing
+pub mod Reading
+pub mod Encoding
+pub mod Delivering
+pub mod Runs
+pub mod Events
+pub mod Law
+pub mod Figures

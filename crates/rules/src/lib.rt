@@ -1,0 +1,17 @@
+// The rules of the group as definitions, and the law over all runs. There is no code but the functions that ask for the theorems.
+ghost use Rattle.rules.specs.Figures.{Small-run};
+ghost use Rattle.rules.specs.Law.{Run-law};
+
+// The law holds after each call of every run, over every field and every accepted code.
+pub fn run_law_stands() -> u8
+    ensures run_law { λ _. ⌜ Run-law ⌝ }
+{
+    0
+}
+
+// A worked run of a small group gives its figures, by the same definitions.
+pub fn small_run_holds() -> u8
+    ensures small_run { λ _. ⌜ Small-run ⌝ }
+{
+    0
+}
