@@ -9,6 +9,7 @@ use Rattle.code.specs.Codings.{Coding, symbol, value-at}
 use Rattle.code.specs.Layout.{coding}
 use Rattle.code.specs.Recovery.{Recovers}
 use Rattle.wire.specs.Examples.{Byte-figures}
+use Rattle.rules.specs.Figures.{Small-run}
 
 -- five servers and three objects of one cell: each object by itself, their sum, and the sum with the middle one twice
 abbrev pub five-by-three : Coding
@@ -27,3 +28,5 @@ pub record Figures : Type 0 where
   pub servers-3-and-4-do-not-recover-0 : Recovers five-by-three (among (3 ∷ 4 ∷ [])) 0 → ⊥
   -- two messages, byte for byte, written and read back
   pub messages-as-bytes : Byte-figures
+  -- a write, a read, a delivery, an apply and an encode in a group of three
+  pub a-small-run : Small-run
