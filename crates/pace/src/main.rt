@@ -51,6 +51,7 @@ fn bytes(rt: &LibcRuntime, times: bool) -> Result<(), AnyError> {
 
 fn lanes(rt: &LibcRuntime, times: bool) -> Result<(), AnyError> {
     for n in [2, 6] {
+        println!(rt, "a carrier of {n} servers")?;
         let start = Instant::now(rt)?;
         let carried = carrying::records(rt.alloc(), n)?;
         told(
