@@ -1,24 +1,19 @@
 -- Sums over a field's elements, and symbols by one value more or less.
-use mathlib.Core.Path.{_≡_, refl, sym, ap, _∙_, subst}
-use mathlib.Core.List.{List, [], _∷_, _++_}
-use mathlib.Core.Bool.{Bool, true, false, cond, _&&_, _||_, not}
+use mathlib.Core.Path.{_≡_, refl, sym, ap, _∙_, ap₂}
+use mathlib.Core.List.{List, []}
 use mathlib.Core.Logic.{_⊎_, inl, inr, ⊎-elim}
-use Prim.Native.Nat.{ℕ, zero, suc, _+_, _<_, _≤_, min, max}
+use Prim.Native.Nat.{ℕ, zero, suc, _<_}
 use native.Mathlib.Omega.{arith}
-use lib.Dec.{eqb, ltb, leb}
-use lib.ListN.{getD, length, drop}
-use Rattle.std.specs.shelf.Lists.{kept-by}
-use Rattle.std.proofs.shelf.Ways.{tells}
-use Rattle.std.proofs.shelf.Tests.{both-ways, cases-bool, cases-eq, cases-order, cases-lt, eq-eqb, ne-eqb, eqb-true, eqb-false, ltb-true, ltb-false, leb-true, leb-false, lt-ltb, and-parts, and-from, and-cases, or-cases, or-parts, or-left, or-right, not-true, not-false, cond-both, cond-true, cond-false}
-use Rattle.rules.proofs.RankedMessages.{Message, Written, Tagged, Question, Plain, Coded, tag}
-use Rattle.rules.proofs.RankedWords.{upd, listed, every, some, seek, lowest, Lanes, posted, spread, taken, free}
-use mathlib.Core.Path.{ap₂}
+use lib.Dec.{eqb}
+use lib.ListN.{getD, length}
+use Rattle.std.proofs.shelf.Tests.{cases-bool, cases-eq}
+use Rattle.rules.proofs.RankedWords.{upd}
 use Rattle.std.proofs.shelf.Counted.{getD-map-counting, length-map-counting, fill-by-all}
-use Rattle.rules.proofs.Ranked.{Code, field-of, coding-of, Entry, same-entry, enters, holds, entered-value, kept, zeros, swap}
+use Rattle.rules.proofs.Ranked.{Code, field-of, coding-of, Entry, entered-value, kept, zeros, swap}
 use Rattle.field.specs.Sums.{sum}
 use Rattle.code.specs.Codings.{combination, symbol}
-use Rattle.rules.proofs.RankedLaw.{mix, Lawful}
-use Rattle.rules.proofs.Words.{upd-same, upd-other, enters-push}
+use Rattle.rules.proofs.RankedFacts.{mix, Lawful}
+use Rattle.rules.proofs.Words.{upd-same, upd-other}
 
 module _ (g : Code) (R : Lawful g) where
   zero-below : 0 < g .q
@@ -58,7 +53,7 @@ module _ (g : Code) (R : Lawful g) where
   unfolding sum
   sum-change zero t u x d lt bt bd same here = absurd (omega arith)
   sum-change (suc n) t u x d lt bt bd same here = elim (cases-eq x n) [
-      inl e ↦
+    | inl e ↦
         ap₂ (g .plus) (sum-same n u t (λ j l. same j (omega arith) (λ q. omega arith))) ((rw e at here))
         ∙ sym (R .plus-assoc (sum (field-of g) n t) (t n) d (sum-below n t) (bt n (omega arith)) bd)
     | inr ne ↦
@@ -66,7 +61,8 @@ module _ (g : Code) (R : Lawful g) where
         let s = sum (field-of g) n t in
         let sb = sum-below n t in
         ap₂ (g .plus) (sum-change n t u x d (omega arith) (λ j l. bt j (omega arith)) bd (λ j l w. same j (omega arith) w) here) (same n (omega arith) (λ q. ne (sym q)))
-        ∙ R .plus-assoc s d (t n) sb bd tn ∙ ap (g .plus s) (R .plus-comm d (t n) bd tn) ∙ sym (R .plus-assoc s (t n) d sb tn bd) ]
+        ∙ R .plus-assoc s d (t n) sb bd tn ∙ ap (g .plus s) (R .plus-comm d (t n) bd tn) ∙ sym (R .plus-assoc s (t n) d sb tn bd)
+  ]
 
   pub mix-below : (s : ℕ) (r : ℕ → ℕ) → mix g s r < g .q
   unfolding mix
@@ -92,9 +88,9 @@ module _ (g : Code) (R : Lawful g) where
   mix-change s x r t sn xk rb tb same =
       let c = g .coefficient s x in
       sum-change (g .k) (λ y. g .times (g .coefficient s y) (r y)) (λ y. g .times (g .coefficient s y) (t y)) x (g .times c (g .plus (t x) (g .minus (r x)))) xk
-        (λ j l. R .times-below (g .coefficient s j) (r j)) (R .times-below c (g .plus (t x) (g .minus (r x))))
-        (λ j l ne. ap (g .times (g .coefficient s j)) (same j l ne))
-        (ap (g .times c) (sym (difference (r x) (t x) rb tb)) ∙ R .times-plus c (r x) (g .plus (t x) (g .minus (r x))) (R .coefficients s x sn xk) rb (R .plus-below (t x) (g .minus (r x))))
+      (λ j l. R .times-below (g .coefficient s j) (r j)) (R .times-below c (g .plus (t x) (g .minus (r x))))
+      (λ j l ne. ap (g .times (g .coefficient s j)) (same j l ne))
+      (ap (g .times c) (sym (difference (r x) (t x) rb tb)) ∙ R .times-plus c (r x) (g .plus (t x) (g .minus (r x))) (R .coefficients s x sn xk) rb (R .plus-below (t x) (g .minus (r x))))
 
   -- ---- symbols under tags, by the values of a log
 
@@ -114,21 +110,25 @@ module _ (g : Code) (R : Lawful g) where
   mix-symbol L s T v h = fill-by-all (λ c. combination (coding-of g) s (λ y. getD (kept g L y (T y)) c 0)) v (g .w) 0 (h .long) (h .cells)
 
   pub mix-tags : (L : List Entry) (s : ℕ) (T U : ℕ → ℕ) (v : List ℕ) → Cells L → ((y : ℕ) → y < g .k → (T y ≡ U y) ⊎ (g .coefficient s y ≡ 0)) → Mix L s T v → Mix L s U v
-  mix-tags L s T U v cells same h = record { long = h .long; cells = λ c lt. h .cells c lt ∙ mix-same s (λ y. getD (kept g L y (T y)) c 0) (λ y. getD (kept g L y (U y)) c 0) (λ y yk.
-      ⊎-elim (λ (e : T y ≡ U y). rw e refl) (λ (e : g .coefficient s y ≡ 0). hidden s y (getD (kept g L y (T y)) c 0) (getD (kept g L y (U y)) c 0) e (cells .below y (T y) c lt) (cells .below y (U y) c lt)) (same y yk)) }
+  mix-tags L s T U v cells same h = record {
+    long = h .long;
+    cells = λ c lt. h .cells c lt ∙ mix-same s (λ y. getD (kept g L y (T y)) c 0) (λ y. getD (kept g L y (U y)) c 0) (λ y yk.
+        ⊎-elim (λ (e : T y ≡ U y). rw e refl) (λ (e : g .coefficient s y ≡ 0). hidden s y (getD (kept g L y (T y)) c 0) (getD (kept g L y (U y)) c 0) e (cells .below y (T y) c lt) (cells .below y (U y) c lt)) (same y yk));
+  }
 
   pub swap-mix : (L : List Entry) (s x t : ℕ) (T : ℕ → ℕ) (old new v : List ℕ) → Cells L → s < g .n → x < g .k → old ≡ kept g L x (T x) → new ≡ kept g L x t → Mix L s T v
       → Mix L s (upd T x t) (swap g s x old new v)
   unfolding swap
   swap-mix L s x t T old new v cells sn xk eo en h = record {
-      long = length-map-counting (λ c. g .plus (getD v c 0) (g .times (g .coefficient s x) (g .plus (getD new c 0) (g .minus (getD old c 0))))) 0 (g .w)
-    ; cells = λ c lt.
-      let r : ℕ → ℕ = λ y. getD (kept g L y (T y)) c 0 in
-      let u : ℕ → ℕ = λ y. getD (kept g L y (upd T x t y)) c 0 in
-      let ux : u x ≡ getD (kept g L x t) c 0 = ap (λ z. getD (kept g L x z) c 0) (upd-same T x t) in
-      getD-map-counting (λ c. g .plus (getD v c 0) (g .times (g .coefficient s x) (g .plus (getD new c 0) (g .minus (getD old c 0))))) 0 (g .w) c c 0 lt (omega arith)
-      ∙ ap₂ (λ a b. g .plus a (g .times (g .coefficient s x) b)) (h .cells c lt) (ap₂ (λ a b. g .plus a (g .minus b)) (ap (λ z. getD z c 0) en ∙ sym ux) (ap (λ z. getD z c 0) eo))
-      ∙ sym (mix-change s x r u sn xk (cells .below x (T x) c lt) (rw ux (cells .below x t c lt)) (λ y yk ne. ap (λ z. getD (kept g L y z) c 0) (upd-other T x y t ne))) }
+    long = length-map-counting (λ c. g .plus (getD v c 0) (g .times (g .coefficient s x) (g .plus (getD new c 0) (g .minus (getD old c 0))))) 0 (g .w);
+    cells = λ c lt.
+        let r : ℕ → ℕ = λ y. getD (kept g L y (T y)) c 0 in
+        let u : ℕ → ℕ = λ y. getD (kept g L y (upd T x t y)) c 0 in
+        let ux : u x ≡ getD (kept g L x t) c 0 = ap (λ z. getD (kept g L x z) c 0) (upd-same T x t) in
+        getD-map-counting (λ c. g .plus (getD v c 0) (g .times (g .coefficient s x) (g .plus (getD new c 0) (g .minus (getD old c 0))))) 0 (g .w) c c 0 lt (omega arith)
+        ∙ ap₂ (λ a b. g .plus a (g .times (g .coefficient s x) b)) (h .cells c lt) (ap₂ (λ a b. g .plus a (g .minus b)) (ap (λ z. getD z c 0) en ∙ sym ux) (ap (λ z. getD z c 0) eo))
+        ∙ sym (mix-change s x r u sn xk (cells .below x (T x) c lt) (rw ux (cells .below x t c lt)) (λ y yk ne. ap (λ z. getD (kept g L y z) c 0) (upd-other T x y t ne)));
+  }
 
   sum-zero : (n : ℕ) (t : ℕ → ℕ) → ((j : ℕ) → j < n → t j ≡ 0) → sum (field-of g) n t ≡ 0
   unfolding sum

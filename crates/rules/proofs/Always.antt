@@ -1,41 +1,26 @@
 -- Tags are within their ranges in every run; so the core is sound in every run, and no delivery answers 6.
-use mathlib.Core.Path.{_≡_, refl, sym, ap, _∙_, subst}
-use mathlib.Core.List.{List, [], _∷_, _++_}
-use mathlib.Core.Bool.{Bool, true, false, cond, _&&_, _||_, not}
-use mathlib.Core.Logic.{_⊎_, inl, inr, ⊎-elim}
-use Prim.Native.Nat.{ℕ, zero, suc, _+_, _-_, _<_, _≤_, min, max}
+use mathlib.Core.Path.{_≡_, refl}
+use mathlib.Core.List.{List, _∷_}
+use mathlib.Core.Bool.{true, false, _&&_}
+use Prim.Native.Nat.{ℕ, _+_, _-_, _<_, _≤_, _*_, _/_, _%_}
 use native.Mathlib.Omega.{arith}
 use lib.Dec.{eqb, ltb, leb}
-use lib.ListN.{getD, length, drop}
-use Rattle.std.specs.shelf.Lists.{kept-by}
-use Rattle.std.proofs.shelf.Ways.{tells}
-use Rattle.std.proofs.shelf.Tests.{le-leb, and-right, both-ways, cases-bool, cases-eq, cases-order, cases-lt, eq-eqb, ne-eqb, eqb-true, eqb-false, ltb-true, ltb-false, leb-true, leb-false, lt-ltb, and-parts, and-from, and-cases, or-cases, or-parts, or-left, or-right, not-true, not-false, cond-both, cond-true, cond-false}
-use Rattle.rules.proofs.RankedMessages.{Message, Written, Tagged, Question, Plain, Coded, tag}
-use Rattle.rules.proofs.RankedWords.{upd, listed, every, some, seek, lowest, Lanes, posted, spread, taken, free}
-use Rattle.rules.proofs.Core.{Core, heard, Good, Sound, Asked}
-use Rattle.rules.proofs.Ranked.{Code, Entry, Waiting, Read, Server, State, has, holds, enters, same-entry, kept, highest, top-tag, zeros, swap, is-open, core, slots, clients, depth, queue, most-writes, most-reads, most-height, no-read, fresh}
-use Rattle.std.specs.declared.option.Option.{Option}
-use Rattle.std.specs.declared.option.Option.the-variants.{None, Some}
-use Rattle.std.proofs.shelf.Counted.{getD-map-counting}
-use Rattle.rules.proofs.RankedSteps as Steps
-use Rattle.rules.proofs.RankedSteps.{Call, Write, Ask, Collect, Deliver, Apply, Encode, Sweep, Answer, Refused, Tag, Value, Number, Still, Nothing, Outcome, Count, Found, Turn, turn, check, unless, write-refusal, open-refusal, read-refusal, read-found, collect-refusal, collect-at, object-refusal, lane-refusal, put, entered, counted, queued, sifted, reading, tells as hearing, moved, new-read, opening, answered, in-hand, overtaken, Picked, room, history-room, elements, write-tag, write-done, write, open-done, free-slot, open-read, from-history, from-symbol, read, client-slot, collect-done, collect, wait-tag, picked, apply-done, apply-picked, apply, move-done, enter-done, encode-contained, within, encode-other, encode, floor, wanted, stays, settled, swept, sweep-done, sweep, fits, states, mixed, reply, question-done, open-slot, take-done, internal-answer, client-answer, settle, mendable, mended, got, oldest, deliver, step, after, run}
-use Rattle.rules.proofs.Words.{upd-same, upd-other, upd-keeps, upd-each, every-at, every-from, some-from, seek-found, lowest-le, enters-push, holds-push, enters-sift, highest-found}
-use Rattle.rules.proofs.Carry.{Carry, good-carry}
-use Rattle.rules.proofs.Take.{Take, take-keeps}
-use Rattle.rules.proofs.Move
-use Rattle.rules.proofs.Move.{move-keeps}
-use Rattle.rules.proofs.Sweep
-use Rattle.rules.proofs.Sweep.{Idle, below, level, sweep-keeps}
-use Rattle.rules.proofs.Replies.{stated, opens, replies, counts, usable, starts}
-use Rattle.rules.proofs.Frames.{Slot, same, fresh-read, Mild, mild-self, spread-from, spread-else, taken-here, taken-else, with-lanes, Fine, fine-put, fine-spread, fine-post, fine-take}
-use Prim.Native.Nat.{_*_, _/_, _%_}
+use lib.ListN.{length}
 use Rattle.std.specs.shelf.Lists.{All}
-use Rattle.rules.proofs.Calls.{unless-both, checked, object-server, object-object, write-keeps, read-keeps, collect-keeps, apply-keeps, encode-keeps, sweep-kept}
-use Rattle.rules.proofs.Deliver.{Noticed, deliver-keeps, deliver-six}
-use Rattle.rules.proofs.Source.{Owner, Sent, Sourced, Found-right, write-sourced, read-sourced, collect-sourced, apply-sourced, encode-sourced, sweep-sourced, deliver-sourced}
-use Rattle.rules.proofs.RankedSteps.{tag-fits}
+use Rattle.std.proofs.shelf.Tests.{le-leb, and-right, ltb-true, lt-ltb, and-parts, and-from, or-left}
+use Rattle.rules.proofs.RankedMessages.{Message, Written, Tagged, Question, Plain, Coded, tag}
+use Rattle.rules.proofs.Ranked.{Code, Entry, State, has, core, slots, most-writes, most-height, fresh}
+use Rattle.rules.proofs.RankedSteps as Steps
+use Rattle.rules.proofs.RankedSteps.{Call, Write, Ask, Collect, Deliver, Apply, Encode, Sweep, Found, write-refusal, elements, open-slot, step, after, tag-fits}
+use Rattle.rules.proofs.Move
+use Rattle.rules.proofs.Sweep
+use Rattle.rules.proofs.Replies.{starts}
+use Rattle.rules.proofs.Frames.{Fine}
+use Rattle.rules.proofs.Calls.{checked, write-keeps, read-keeps, collect-keeps, apply-keeps, encode-keeps, sweep-kept}
+use Rattle.rules.proofs.Deliver.{Noticed, deliver-keeps}
+use Rattle.rules.proofs.Source.{Sent, Sourced, Found-right, write-sourced, read-sourced, collect-sourced, apply-sourced, encode-sourced, sweep-sourced, deliver-sourced}
 use Rattle.rules.proofs.Fitting.{notice-fits}
-use Rattle.rules.proofs.RankedLaw.{Event, events, Lawful, Usable}
+use Rattle.rules.proofs.RankedFacts.{Lawful}
 
 module _ (g : Code) (R : Lawful g) where
   some-server : 0 < g .n
@@ -109,21 +94,6 @@ module _ (g : Code) (R : Lawful g) where
 
   pub fresh-stands : Stands (fresh g)
   fresh-stands = record {
-      ranged = record { servers = λ s. record { own = none; history = tt; waiting = tt; reads = λ i y. none y }; lanes = λ a b. tt }
-    ; fine = starts (g .n) (g .k) (has g) (core (fresh g)) (record { own = λ s x. refl; told = λ s x j. refl; held = λ s x. refl; lane = λ a b. refl; live = λ s i. and-right (ltb i slots) false refl }) }
-
-  pub run-stands : (S : State) (ms : List Steps.Move) → Stands S → Stands (run g S ms)
-  run-stands S [] h = h
-  run-stands S (m ∷ ms) h = run-stands (after g S m) ms (step-stands S m h)
-
-  -- after any run, a delivery does not answer 6
-  pub never-six : (ms : List Steps.Move) (a b : ℕ) (f : Found) → deliver g (run g (fresh g) ms) a b f .answer ≡ Outcome 6 → ⊥
-  never-six ms a b f = deliver-six g (run g (fresh g) ms) (run-stands (fresh g) ms fresh-stands .fine) a b f
-
-  -- no deliver of a run answers 6
-  pub run-usable : (S : State) (ms : List Steps.Move) → Stands S → All (λ e. (a b : ℕ) → e .call ≡ Deliver a b → e .answer ≡ Outcome 6 → ⊥) (events g S ms)
-  run-usable S [] h = tt
-  run-usable S (m ∷ ms) h = ((λ a b e six. deliver-six g S (h .fine) a b (m .found) (subst (λ c. step g S c (m .found) .answer ≡ Outcome 6) e six)), run-usable (after g S m) ms (step-stands S m h))
-
-pub usable-always : Usable
-usable-always g R ms = run-usable g R (fresh g) ms (fresh-stands g R)
+    ranged = record { servers = λ s. record { own = none; history = tt; waiting = tt; reads = λ i y. none y }; lanes = λ a b. tt };
+    fine = starts (g .n) (g .k) (has g) (core (fresh g)) (record { own = λ s x. refl; told = λ s x j. refl; held = λ s x. refl; lane = λ a b. refl; live = λ s i. and-right (ltb i slots) false refl });
+  }

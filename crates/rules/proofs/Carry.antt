@@ -1,15 +1,13 @@
 -- A message's good standing goes from one core to the next.
-use mathlib.Core.Path.{_≡_, refl, sym, ap, _∙_, subst}
-use mathlib.Core.List.{List, [], _∷_, _++_}
-use mathlib.Core.Bool.{Bool, true, false, cond}
+use mathlib.Core.Path.{_≡_, sym, _∙_}
+use mathlib.Core.List.{List}
+use mathlib.Core.Bool.{Bool, true}
 use mathlib.Core.Logic.{_⊎_, inl, inr, ⊎-elim}
-use Prim.Native.Nat.{ℕ, zero, suc, _+_, _<_, _≤_}
+use Prim.Native.Nat.{ℕ, _≤_}
 use native.Mathlib.Omega.{arith}
-use lib.Dec.{eqb}
 use lib.ListN.{getD}
-use Rattle.std.proofs.shelf.Tests.{both-ways, cases-bool, cases-eq, cases-order, eq-eqb, ne-eqb}
 use Rattle.rules.proofs.RankedMessages.{Message, Written, Tagged, Question, Plain, Coded}
-use Rattle.rules.proofs.Core.{Core, heard, after, Chain, On, Kept, Asked, Mends, Replied, Good, Sound}
+use Rattle.rules.proofs.Core.{Core, after, On, Kept, Asked, Mends, Replied, Good}
 
 module _ (n k : ℕ) (has : ℕ → ℕ → Bool) where
   -- of the lane from a to b: behind old in c, behind pre in d
@@ -26,20 +24,25 @@ module _ (n k : ℕ) (has : ℕ → ℕ → Bool) where
   module _ (c d : Core) (a b : ℕ) (old pre : List Message) (g : Carry c d a b old pre) where
     asked-carry : (p : ℕ) (T : List ℕ) → Asked n k has c a b old p T → Asked n k has d a b pre p T
     asked-carry p T q = record {
-        counted = let l = g .last a in let o = q .counted in omega arith
-      ; chain = λ y lt. q .chain y lt ∙ sym (g .same y)
-      ; read = λ i e f y lt. g .want a i y ∙ q .read i (sym (g .live a i) ∙ e) (sym (g .num a i) ∙ f) y lt
-      ; kept = λ i e f y lt r. rw (g .want a i y) (g .kept y (c .want a i y) r (q .kept i (sym (g .live a i) ∙ e) (sym (g .num a i) ∙ f) y lt r)) }
+      counted = let l = g .last a in let o = q .counted in omega arith;
+      chain = λ y lt. q .chain y lt ∙ sym (g .same y);
+      read = λ i e f y lt. g .want a i y ∙ q .read i (sym (g .live a i) ∙ e) (sym (g .num a i) ∙ f) y lt;
+      kept = λ i e f y lt r. rw (g .want a i y) (g .kept y (c .want a i y) r (q .kept i (sym (g .live a i) ∙ e) (sym (g .num a i) ∙ f) y lt r));
+    }
 
     mends-carry : (y u w : ℕ) → Mends n k has c a b old y u w → Mends n k has d a b pre y u w
     mends-carry y u w m = record {
-        wanted = g .held y u (m .wanted); stated = g .held y w (m .stated)
-      ; off = λ on. m .off (g .more y u on); low = rw (g .same y) (m .low) }
+      wanted = g .held y u (m .wanted);
+      stated = g .held y w (m .stated);
+      off = λ on. m .off (g .more y u on);
+      low = rw (g .same y) (m .low);
+    }
 
     replied-carry : (p : ℕ) (st : List ℕ) → Replied n k has c a b old p st → Replied n k has d a b pre p st
     replied-carry p st q = record {
-        counted = let l = g .last b in let o = q .counted in omega arith
-      ; usable = λ i e f y lt r. ⊎-elim (λ z. inl (z ∙ sym (g .want b i y))) (λ m. inr (rw (g .want b i y) (mends-carry y (c .want b i y) (getD st y 0) m))) (q .usable i (sym (g .live b i) ∙ e) (sym (g .num b i) ∙ f) y lt r) }
+      counted = let l = g .last b in let o = q .counted in omega arith;
+      usable = λ i e f y lt r. ⊎-elim (λ z. inl (z ∙ sym (g .want b i y))) (λ m. inr (rw (g .want b i y) (mends-carry y (c .want b i y) (getD st y 0) m))) (q .usable i (sym (g .live b i) ∙ e) (sym (g .num b i) ∙ f) y lt r);
+    }
 
     pub good-carry : (m : Message) → Good n k has c a b old m → Good n k has d a b pre m
     good-carry (Written y v t l) q = tt

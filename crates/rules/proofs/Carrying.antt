@@ -1,48 +1,29 @@
 -- A delivery keeps the values right; every run has them.
-use mathlib.Core.Path.{_≡_, refl, sym, ap, _∙_, subst}
+use mathlib.Core.Path.{_≡_, refl, sym, ap, _∙_, ap₂}
 use mathlib.Core.List.{List, [], _∷_, _++_}
-use mathlib.Core.Bool.{Bool, true, false, cond, _&&_, _||_, not}
-use mathlib.Core.Logic.{_⊎_, inl, inr, ⊎-elim}
-use Prim.Native.Nat.{ℕ, zero, suc, _+_, _-_, _<_, _≤_, min, max}
+use mathlib.Core.Bool.{true, cond, _&&_}
+use mathlib.Core.Logic.{inl, inr}
+use Prim.Native.Nat.{ℕ, _+_, _-_, _<_}
 use native.Mathlib.Omega.{arith}
-use lib.Dec.{eqb, ltb, leb}
+use lib.Dec.{eqb, ltb}
 use lib.ListN.{getD, length, drop}
-use Rattle.std.specs.shelf.Lists.{kept-by}
-use Rattle.std.proofs.shelf.Ways.{tells}
-use Rattle.std.proofs.shelf.Tests.{both-ways, cases-bool, cases-eq, cases-order, cases-lt, eq-eqb, ne-eqb, eqb-true, eqb-false, ltb-true, ltb-false, leb-true, leb-false, lt-ltb, and-parts, and-from, and-cases, or-cases, or-parts, or-left, or-right, not-true, not-false, cond-both, cond-true, cond-false}
-use Rattle.rules.proofs.RankedMessages.{Message, Written, Tagged, Question, Plain, Coded, tag, height, server}
-use Rattle.rules.proofs.RankedWords.{upd, listed, every, some, seek, lowest, Lanes, posted, spread, taken, free}
-use Rattle.rules.proofs.Core.{Core, heard, Good, Sound, Asked}
-use Rattle.rules.proofs.Ranked.{Code, Entry, Waiting, Read, Server, State, has, holds, enters, same-entry, kept, highest, top-tag, zeros, swap, is-open, core, slots, clients, depth, queue, most-writes, most-reads, most-height, no-read, fresh}
-use Rattle.std.specs.declared.option.Option.{Option}
-use Rattle.std.specs.declared.option.Option.the-variants.{None, Some}
-use Rattle.std.proofs.shelf.Counted.{getD-map-counting}
-use Rattle.rules.proofs.RankedSteps as Steps
-use Rattle.rules.proofs.RankedSteps.{Call, Write, Ask, Collect, Deliver, Apply, Encode, Sweep, Answer, Refused, Tag, Value, Number, Still, Nothing, Outcome, Count, Found, Turn, turn, check, unless, write-refusal, open-refusal, read-refusal, read-found, collect-refusal, collect-at, object-refusal, lane-refusal, put, entered, counted, queued, sifted, reading, tells as hearing, moved, new-read, opening, answered, in-hand, overtaken, Picked, room, history-room, elements, write-tag, write-done, write, open-done, free-slot, open-read, from-history, from-symbol, read, client-slot, collect-done, collect, wait-tag, picked, apply-done, apply-picked, apply, move-done, enter-done, encode-contained, within, encode-other, encode, floor, wanted, stays, settled, swept, sweep-done, sweep, fits, states, mixed, reply, question-done, open-slot, take-done, internal-answer, client-answer, settle, mendable, mended, got, oldest, deliver, step, after, run}
-use Rattle.rules.proofs.Words.{upd-same, upd-other, upd-keeps, upd-each, every-at, every-from, some-from, seek-found, lowest-le, enters-push, holds-push, enters-sift, highest-found}
-use Rattle.rules.proofs.Carry.{Carry, good-carry}
-use Rattle.rules.proofs.Take.{Take, take-keeps}
-use Rattle.rules.proofs.Move
-use Rattle.rules.proofs.Move.{move-keeps}
-use Rattle.rules.proofs.Sweep
-use Rattle.rules.proofs.Sweep.{Idle, below, level, sweep-keeps}
-use Rattle.rules.proofs.Replies.{stated, opens, replies, counts, usable, starts}
-use Rattle.rules.proofs.Frames.{Slot, same, fresh-read, Mild, mild-self, spread-from, spread-else, taken-here, taken-else, with-lanes, Fine, fine-put, fine-spread, fine-post, fine-take}
-use mathlib.Core.Path.{ap₂}
 use Rattle.std.specs.shelf.Lists.{All}
-use Rattle.std.proofs.shelf.Elements.{all-push, all-drop, all-kept-by, all-weaker}
-use Rattle.std.proofs.shelf.Counted.{length-map-counting, fill-by-all}
-use Rattle.rules.proofs.Core.{Replied}
-use Rattle.rules.proofs.RankedLaw.{mix, Lawful, Decoded, Tested, only, Allowed, Allowed-message}
-use Rattle.rules.proofs.Calls.{unless-both, checked, object-server, object-object, read-server}
-use Rattle.rules.proofs.Deliver.{lane-ends, states-stated, open-found, mends}
-use Rattle.rules.proofs.Source.{Owner, Sent, Sourced}
-use Rattle.rules.proofs.Algebra.{Cells, Mix, mix-tags, swap-mix, mix-same}
-use Rattle.rules.proofs.Calls.{overtaken-open, read-object}
-use Rattle.rules.proofs.Values.{live, Same-read, Still-reads, still-self, Of-entry, Of-tag, Right, Told, Valued, kept-right, lanes-still, put-still, put-valued}
-use Rattle.rules.proofs.Words.{ltb-step, upto, upto-none, upto-all, upto-here, upto-next, upto-else}
+use Rattle.std.proofs.shelf.Tests.{cases-eq, eqb-true, and-parts, and-from, cond-both}
+use Rattle.rules.proofs.RankedMessages.{Message, Written, Tagged, Question, Plain, Coded, tag}
+use Rattle.rules.proofs.RankedWords.{upd, listed, posted, taken}
+use Rattle.rules.proofs.Ranked.{Code, Entry, Waiting, Read, Server, State, holds, kept, is-open, slots, clients, queue, no-read}
+use Rattle.std.proofs.shelf.Counted.{getD-map-counting, length-map-counting}
+use Rattle.rules.proofs.RankedSteps.{Outcome, Found, Turn, turn, check, unless, lane-refusal, entered, queued, reading, tells as hearing, answered, in-hand, history-room, fits, states, mixed, reply, question-done, open-slot, take-done, internal-answer, client-answer, settle, mendable, mended, got, oldest, deliver}
+use Rattle.rules.proofs.Words.{upd-same, upd-other}
+use Rattle.rules.proofs.Frames.{Fine}
+use Rattle.std.proofs.shelf.Elements.{all-push, all-drop}
+use Rattle.rules.proofs.RankedFacts.{Lawful, Allowed-message}
+use Rattle.rules.proofs.Calls.{unless-both}
+use Rattle.rules.proofs.Deliver.{lane-ends, open-found, mends}
+use Rattle.rules.proofs.Source.{Sourced, Found-right}
+use Rattle.rules.proofs.Algebra.{Cells, Mix}
+use Rattle.rules.proofs.Values.{live, Still-reads, Of-entry, Of-tag, Right, Told, Valued, kept-right, put-valued}
 use Rattle.rules.proofs.Valuing.{closed-same, still-same, right-same, decoded-right}
-use Rattle.rules.proofs.Source.{Found-right}
 use Rattle.rules.proofs.Mixing.{reply-right, states-of, held-of, mended-right}
 
 module _ (g : Code) (R : Lawful g) (L : List Entry) (cells : Cells g R L) (S : State) (f : Fine g S) (src : Sourced g (Of-entry g R L) (Of-tag g R L) S) (h : Valued g R L S) where
@@ -70,8 +51,8 @@ module _ (g : Code) (R : Lawful g) (L : List Entry) (cells : Cells g R L) (S : S
         let one = turn (Outcome 4) (take-done g S a b (client-answer g p i r v)) in
         let two = turn (Outcome 4) (take-done g S a b (internal-answer g p i r v)) in
         cond-both (ltb i clients) one (unless (check (history-room g S b) 15 0) S two) Kept
-          (λ _. take-plain (client-answer g p i r v) refl refl (closed-same (p .reads) i (answered r v (r .tags (r .object)) 3) refl))
-          (λ _. unless-both Kept (check (history-room g S b) 15 0) S two h (λ _. take-plain (internal-answer g p i r v) refl refl (closed-same (p .reads) i no-read refl)))
+        (λ _. take-plain (client-answer g p i r v) refl refl (closed-same (p .reads) i (answered r v (r .tags (r .object)) 3) refl))
+        (λ _. unless-both Kept (check (history-room g S b) 15 0) S two h (λ _. take-plain (internal-answer g p i r v) refl refl (closed-same (p .reads) i no-read refl)))
 
     queued-valued : (ws : List Waiting) → Valued g R L (take-done g S a b (queued (S .servers b) ws))
     unfolding queued
@@ -87,24 +68,28 @@ module _ (g : Code) (R : Lawful g) (L : List Entry) (cells : Cells g R L) (S : S
         let p = S .servers b in
         let P : ℕ → ℕ → Message → Type 0 = λ i j. Told g R L i (S .servers i) (S .servers j) in
         record {
-          servers = h .servers
-        ; lanes = λ i j inn jn nn. cond-both (eqb i b && eqb j a) (taken (S .lanes) a b i j ++ reply g b p m x T ∷ []) (taken (S .lanes) a b i j) (All (P i j))
-            (λ e. let q = and-parts (eqb i b) (eqb j a) e in
+          servers = h .servers;
+          lanes = λ i j inn jn nn. cond-both (eqb i b && eqb j a) (taken (S .lanes) a b i j ++ reply g b p m x T ∷ []) (taken (S .lanes) a b i j) (All (P i j))
+              (λ e. let q = and-parts (eqb i b) (eqb j a) e in
               all-push (P i j) (taken (S .lanes) a b i j) (reply g b p m x T) (taken-told P i j (h .lanes i j inn jn nn)) (rw (eqb-true i b (q .0), eqb-true j a (q .1)) reply-told))
-            (λ _. taken-told P i j (h .lanes i j inn jn nn)) }
+              (λ _. taken-told P i j (h .lanes i j inn jn nn));
+        }
       where
         plain-told : holds (S .servers b .history) x (getD T x 0) ≡ true → Told g R L b (S .servers b) (S .servers a) (Plain m (kept g (S .servers b .history) x (getD T x 0)))
         plain-told held i lv nu =
             let w = told .1 i lv nu in
             kept-right g R L (S .servers b .history) x (getD T x 0) cells (src .servers b .history) held
             ∙ sym (ap₂ (kept g L) (w .0) (ap (S .servers a .reads i .tags) (w .0) ∙ w .1 x (told .0)))
+
         reply-told : Told g R L b (S .servers b) (S .servers a) (reply g b (S .servers b) m x T)
         reply-told = cond-both (holds (S .servers b .history) x (getD T x 0)) (Plain m (kept g (S .servers b .history) x (getD T x 0))) (Coded m (mixed g b (S .servers b) T (g .k)) (listed (g .k) (λ y. states g b (S .servers b) y (getD T y 0))))
             (Told g R L b (S .servers b) (S .servers a)) plain-told
-            (λ _. ((λ y yk. rw (getD-map-counting (λ y. states g b (S .servers b) y (getD T y 0)) 0 (g .k) y y 0 yk (omega arith))
-                      (states-of g R L cells b (S .servers b) y (getD T y 0) (src .servers b) (held-of g R L cells (S .servers b .history) y (getD T y 0) (src .servers b .history)))),
-                   reply-right g R L cells b (S .servers b) T bn (h .servers b bn .symbol) (src .servers b .history),
-                   length-map-counting (λ y. states g b (S .servers b) y (getD T y 0)) 0 (g .k)))
+            (λ _. (
+              (λ y yk. rw (getD-map-counting (λ y. states g b (S .servers b) y (getD T y 0)) 0 (g .k) y y 0 yk (omega arith))
+                  (states-of g R L cells b (S .servers b) y (getD T y 0) (src .servers b) (held-of g R L cells (S .servers b .history) y (getD T y 0) (src .servers b .history)))),
+              reply-right g R L cells b (S .servers b) T bn (h .servers b bn .symbol) (src .servers b .history),
+              length-map-counting (λ y. states g b (S .servers b) y (getD T y 0)) 0 (g .k),
+            ))
 
     -- one symbol more in hand
     hand-right : (i : ℕ) (v : List ℕ) → live (S .servers b) i ≡ true → Mix g R L a (S .servers b .reads i .tags) v → Right g R L b (reading (S .servers b) (upd (S .servers b .reads) i (in-hand (S .servers b .reads i) a v)))
@@ -114,28 +99,33 @@ module _ (g : Code) (R : Lawful g) (L : List Entry) (cells : Cells g R L) (S : S
         let q = h .servers b bn in
         let r′ = in-hand (p .reads i) a v in
         record {
-          symbol = q .symbol
-        ; object = λ j e. elim (cases-eq j i) [
-            inl z ↦ rw (z, upd-same (p .reads) i r′) (q .object i lv)
-          | inr far ↦ let u = upd-other (p .reads) i j r′ far in rw u (q .object j (rw u at e)) ]
-        ; hand = λ j e k kn w. elim (cases-eq j i) [
-            inl z ↦
-              let u : upd (p .reads) i r′ j ≡ r′ = ap (upd (p .reads) i r′) z ∙ upd-same (p .reads) i r′ in
-              rw u (hands i v lv new k kn (sym (ap (λ (r : Read). r .hand k) u) ∙ w))
-          | inr far ↦ let u = upd-other (p .reads) i j r′ far in rw u (q .hand j (rw u at e) k kn (rw u at w)) ] }
+          symbol = q .symbol;
+          object = λ j e. elim (cases-eq j i) [
+            | inl z ↦ rw (z, upd-same (p .reads) i r′) (q .object i lv)
+            | inr far ↦ let u = upd-other (p .reads) i j r′ far in rw u (q .object j (rw u at e))
+          ];
+          hand = λ j e k kn w. elim (cases-eq j i) [
+            | inl z ↦
+                let u : upd (p .reads) i r′ j ≡ r′ = ap (upd (p .reads) i r′) z ∙ upd-same (p .reads) i r′ in
+                rw u (hands i v lv new k kn (sym (ap (λ (r : Read). r .hand k) u) ∙ w))
+            | inr far ↦ let u = upd-other (p .reads) i j r′ far in rw u (q .hand j (rw u at e) k kn (rw u at w))
+          ];
+        }
       where
         hands : (i : ℕ) (v : List ℕ) → live (S .servers b) i ≡ true → Mix g R L a (S .servers b .reads i .tags) v → (k : ℕ) → k < g .n → upd (S .servers b .reads i .hand) a true k ≡ true
             → Mix g R L k (S .servers b .reads i .tags) (upd (S .servers b .reads i .symbols) a v k)
         hands i v lv new k kn w = elim (cases-eq k a) [
-            inl e ↦ rw (e, upd-same (S .servers b .reads i .symbols) a v) new
-          | inr far ↦ rw (upd-other (S .servers b .reads i .symbols) a k v far) (h .servers b bn .hand i lv k kn (sym (upd-other (S .servers b .reads i .hand) a k true far) ∙ w)) ]
+          | inl e ↦ rw (e, upd-same (S .servers b .reads i .symbols) a v) new
+          | inr far ↦ rw (upd-other (S .servers b .reads i .symbols) a k v far) (h .servers b bn .hand i lv k kn (sym (upd-other (S .servers b .reads i .hand) a k true far) ∙ w))
+        ]
 
     -- all hands of the read with one symbol more
     pub all-hands : (i : ℕ) (v : List ℕ) → live (S .servers b) i ≡ true → Mix g R L a (S .servers b .reads i .tags) v
         → (k : ℕ) → k < g .n → in-hand (S .servers b .reads i) a v .hand k ≡ true → Mix g R L k (S .servers b .reads i .tags) (in-hand (S .servers b .reads i) a v .symbols k)
     all-hands i v lv new k kn w = elim (cases-eq k a) [
-        inl e ↦ rw (e, upd-same (S .servers b .reads i .symbols) a v) new
-      | inr far ↦ rw (upd-other (S .servers b .reads i .symbols) a k v far) (h .servers b bn .hand i lv k kn (sym (upd-other (S .servers b .reads i .hand) a k true far) ∙ w)) ]
+      | inl e ↦ rw (e, upd-same (S .servers b .reads i .symbols) a v) new
+      | inr far ↦ rw (upd-other (S .servers b .reads i .symbols) a k v far) (h .servers b bn .hand i lv k kn (sym (upd-other (S .servers b .reads i .hand) a k true far) ∙ w))
+    ]
 
     hand-still : (i : ℕ) (v : List ℕ) → live (S .servers b) i ≡ true → Still-reads (S .servers b) (reading (S .servers b) (upd (S .servers b .reads) i (in-hand (S .servers b .reads i) a v)))
     unfolding reading
@@ -143,10 +133,11 @@ module _ (g : Code) (R : Lawful g) (L : List Entry) (cells : Cells g R L) (S : S
         let p = S .servers b in
         let r′ = in-hand (p .reads i) a v in
         elim (cases-eq j i) [
-          inl z ↦ let u : upd (p .reads) i r′ j ≡ r′ = ap (upd (p .reads) i r′) z ∙ upd-same (p .reads) i r′ in
-            inl (record { was = rw z lv; number = rw (u, z); object = rw (u, z); tags = rw (u, z) })
-        | inr far ↦ let u = upd-other (p .reads) i j r′ far in
-            inl (record { was = rw u at e; number = ap (λ (r : Read). r .number) u; object = ap (λ (r : Read). r .object) u; tags = ap (λ (r : Read). r .tags) u }) ]
+          | inl z ↦ let u : upd (p .reads) i r′ j ≡ r′ = ap (upd (p .reads) i r′) z ∙ upd-same (p .reads) i r′ in
+              inl (record { was = rw z lv; number = rw (u, z); object = rw (u, z); tags = rw (u, z) })
+          | inr far ↦ let u = upd-other (p .reads) i j r′ far in
+              inl (record { was = rw u at e; number = ap (λ (r : Read). r .number) u; object = ap (λ (r : Read). r .object) u; tags = ap (λ (r : Read). r .tags) u })
+        ]
 
     slot-live : (m : ℕ) → ltb (open-slot g (S .servers b) m) slots ≡ true → live (S .servers b) (open-slot g (S .servers b) m) ≡ true
     slot-live m e = and-from (ltb (open-slot g (S .servers b) m) slots) (is-open (S .servers b .reads (open-slot g (S .servers b) m))) e (open-found g (S .servers b) m e .0)
@@ -174,11 +165,11 @@ module _ (g : Code) (R : Lawful g) (L : List Entry) (cells : Cells g R L) (S : S
         let useless = turn (Outcome 6) (take-done g S a b p) in
         let wait = turn (Outcome 3) (take-done g S a b (reading p (upd (p .reads) i r′))) in
         cond-both (ltb i slots) (cond (mendable g p a r st) (cond (d .recovered) (settle g S a b i r′ (d .value)) wait) useless) (turn (Outcome 5) (take-done g S a b p)) Kept
-          (λ e. cond-both (mendable g p a r st) (cond (d .recovered) (settle g S a b i r′ (d .value)) wait) useless Kept
-            (λ q. cond-both (d .recovered) (settle g S a b i r′ (d .value)) wait Kept (λ _. settle-valued i r′ (d .value))
-              (λ _. take-valued (reading p (upd (p .reads) i r′)) (hand-right i w (slot-live m e) (mended-right g R L cells p a r v st an (src .servers b .history) q (told .1))) (hand-still i w (slot-live m e))))
-            (λ _. take-plain p refl refl (λ i e. refl)))
-          (λ _. take-plain p refl refl (λ i e. refl))
+        (λ e. cond-both (mendable g p a r st) (cond (d .recovered) (settle g S a b i r′ (d .value)) wait) useless Kept
+        (λ q. cond-both (d .recovered) (settle g S a b i r′ (d .value)) wait Kept (λ _. settle-valued i r′ (d .value))
+        (λ _. take-valued (reading p (upd (p .reads) i r′)) (hand-right i w (slot-live m e) (mended-right g R L cells p a r v st an (src .servers b .history) q (told .1))) (hand-still i w (slot-live m e))))
+        (λ _. take-plain p refl refl (λ i e. refl)))
+        (λ _. take-plain p refl refl (λ i e. refl))
 
     oldest-valued : (l : List Message) (d : Found) → All (Told g R L a (S .servers a) (S .servers b)) l → Kept (oldest g S a b l d)
     unfolding oldest
@@ -204,7 +195,7 @@ module _ (g : Code) (R : Lawful g) (L : List Entry) (cells : Cells g R L) (S : S
         let w = mended g p a r v st (g .k) in
         let mend = mends g S f a b an bn ne m v st ms e l in
         decoded-right g R L cells (in-hand r a w .hand) (in-hand r a w .symbols) (r .object) (d .value) (r .tags) (h .servers b bn .object i lv) (ok l mend .decoded rec)
-           (all-hands i w lv (mended-right g R L cells p a r v st an (src .servers b .history) mend (all .0 .1)))
+        (all-hands i w lv (mended-right g R L cells p a r v st an (src .servers b .history) mend (all .0 .1)))
 
     -- the value that answers an internal read is the one under its tag
     pub found-right : (m : Message) (ms : List Message) (d : Found) → S .lanes a b ≡ m ∷ ms → Allowed-message g S a b m d
@@ -224,10 +215,11 @@ module _ (g : Code) (R : Lawful g) (L : List Entry) (cells : Cells g R L) (S : S
         let lv = slot-live m l in
         let w = mended g p a r v st (g .k) in
         let mend = mends g S f a b an bn ne m v st ms e l in
-        let t = ok l mend in
-        (src .servers b .reads i (r .object),
-         decoded-right g R L cells (in-hand r a w .hand) (in-hand r a w .symbols) (r .object) (d .value) (r .tags) (h .servers b bn .object i lv) (t .decoded rec)
-           (all-hands i w lv (mended-right g R L cells p a r v st an (src .servers b .history) mend (all .0 .1))))
+        let t = ok l mend in (
+          src .servers b .reads i (r .object),
+          decoded-right g R L cells (in-hand r a w .hand) (in-hand r a w .symbols) (r .object) (d .value) (r .tags) (h .servers b bn .object i lv) (t .decoded rec)
+              (all-hands i w lv (mended-right g R L cells p a r v st an (src .servers b .history) mend (all .0 .1))),
+        )
 
   pub deliver-valued : (a b : ℕ) (d : Found) → Kept (deliver g S a b d)
   unfolding deliver

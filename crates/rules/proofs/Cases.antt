@@ -1,33 +1,20 @@
 -- Each call by its cases: what holds of every way that it can end holds of the call.
-use mathlib.Core.Path.{_≡_, refl, sym, ap, ap₂, _∙_, subst}
+use mathlib.Core.Path.{_≡_, refl, sym, ap, ap₂, _∙_}
 use mathlib.Core.List.{List, [], _∷_, _++_}
 use mathlib.Core.Bool.{Bool, true, false, cond, _&&_, _||_, not}
 use mathlib.Core.Logic.{_⊎_, inl, inr, ⊎-elim}
-use Prim.Native.Nat.{ℕ, zero, suc, _+_, _-_, _<_, _≤_, min, max}
+use Prim.Native.Nat.{ℕ, _+_, _-_, _<_, _≤_}
 use native.Mathlib.Omega.{arith}
 use lib.Dec.{eqb, ltb, leb}
-use lib.ListN.{getD, length, drop}
-use Rattle.std.specs.shelf.Lists.{kept-by}
-use Rattle.std.proofs.shelf.Ways.{tells}
-use Rattle.std.proofs.shelf.Tests.{both-ways, cases-bool, cases-eq, cases-order, cases-lt, eq-eqb, ne-eqb, eqb-true, eqb-false, ltb-true, ltb-false, leb-true, leb-false, lt-ltb, and-parts, and-from, and-cases, or-cases, or-parts, or-left, or-right, not-true, not-false, cond-both, cond-true, cond-false}
-use Rattle.rules.proofs.RankedMessages.{Message, Written, Tagged, Question, Plain, Coded, tag, height, server}
-use Rattle.rules.proofs.RankedWords.{upd, listed, every, some, seek, lowest, Lanes, posted, spread, taken, free}
-use Rattle.rules.proofs.Core.{Core, heard, Good, Sound, Asked}
-use Rattle.rules.proofs.Ranked.{Code, Entry, Waiting, Read, Server, State, has, holds, enters, same-entry, kept, highest, top-tag, zeros, swap, is-open, core, slots, clients, depth, queue, most-writes, most-reads, most-height, no-read, fresh}
+use lib.ListN.{getD, length}
+use Rattle.std.proofs.shelf.Tests.{both-ways, cases-eq, ltb-true, leb-true, leb-false, and-parts, and-from, and-cases, or-parts, not-false, cond-both}
+use Rattle.rules.proofs.RankedMessages.{Message, Written, Tagged, Question, Plain, Coded, tag}
+use Rattle.rules.proofs.RankedWords.{upd, some, free}
+use Rattle.rules.proofs.Ranked.{Code, Read, Server, State, has, holds, enters, kept, highest, top-tag, swap, is-open, slots, clients, queue, most-reads, no-read}
 use Rattle.std.specs.declared.option.Option.{Option}
 use Rattle.std.specs.declared.option.Option.the-variants.{None, Some}
-use Rattle.std.proofs.shelf.Counted.{getD-map-counting}
-use Rattle.rules.proofs.RankedSteps as Steps
-use Rattle.rules.proofs.RankedSteps.{Call, Write, Ask, Collect, Deliver, Apply, Encode, Sweep, Answer, Refused, Tag, Value, Number, Still, Nothing, Outcome, Count, Found, Turn, turn, check, unless, write-refusal, open-refusal, read-refusal, read-found, collect-refusal, collect-at, object-refusal, lane-refusal, put, entered, counted, queued, sifted, reading, tells as hearing, moved, new-read, opening, answered, in-hand, overtaken, Picked, room, history-room, elements, write-tag, write-done, write, open-done, free-slot, open-read, from-history, from-symbol, read, client-slot, collect-done, collect, wait-tag, picked, apply-done, apply-picked, apply, move-done, enter-done, encode-contained, within, encode-other, encode, floor, wanted, stays, settled, swept, sweep-done, sweep, fits, states, mixed, reply, question-done, open-slot, take-done, internal-answer, client-answer, settle, mendable, mended, got, oldest, deliver, step, after, run}
-use Rattle.rules.proofs.Words.{upd-same, upd-other, upd-keeps, upd-each, every-at, every-from, some-from, seek-found, lowest-le, enters-push, holds-push, enters-sift, highest-found}
-use Rattle.rules.proofs.Carry.{Carry, good-carry}
-use Rattle.rules.proofs.Take.{Take, take-keeps}
-use Rattle.rules.proofs.Move
-use Rattle.rules.proofs.Move.{move-keeps}
-use Rattle.rules.proofs.Sweep
-use Rattle.rules.proofs.Sweep.{Idle, below, level, sweep-keeps}
-use Rattle.rules.proofs.Replies.{stated, opens, replies, counts, usable, starts}
-use Rattle.rules.proofs.Frames.{Slot, same, fresh-read, Mild, mild-self, spread-from, spread-else, taken-here, taken-else, with-lanes, Fine, fine-put, fine-spread, fine-post, fine-take}
+use Rattle.rules.proofs.RankedSteps.{Refused, Tag, Value, Number, Still, Nothing, Outcome, Count, Found, Turn, turn, check, unless, write-refusal, open-refusal, read-refusal, read-found, collect-refusal, collect-at, object-refusal, lane-refusal, entered, queued, reading, tells as hearing, answered, in-hand, Picked, room, history-room, write-tag, write-done, write, open-done, free-slot, open-read, from-history, from-symbol, read, client-slot, collect-done, collect, wait-tag, picked, apply-done, apply-picked, apply, move-done, enter-done, encode-contained, within, encode-other, encode, swept, sweep-done, sweep, fits, reply, question-done, open-slot, take-done, internal-answer, client-answer, settle, mendable, mended, got, oldest, deliver}
+use Rattle.rules.proofs.Words.{upd-same, upd-other, highest-found}
 use Rattle.rules.proofs.Calls.{unless-both, checked, object-server, object-object, read-server, read-object}
 use Rattle.rules.proofs.Deliver.{lane-ends, open-found}
 
@@ -51,19 +38,21 @@ open-upd p r j q eq h i e =
     let at : r .reads i ≡ upd (p .reads) j q i = ap (λ (rs : ℕ → Read). rs i) eq in
     let a = and-parts (ltb i slots) (is-open (r .reads i)) e in
     elim (cases-eq i j) [
-      inl z ↦
-        let u : r .reads i ≡ q = at ∙ ap (upd (p .reads) j q) z ∙ upd-same (p .reads) j q in
-        let w = h (ap is-open (sym u) ∙ a .1) in
-        record { was = and-from (ltb i slots) (is-open (p .reads i)) (a .0) (rw z (w .0)); object = rw (u, z) (w .1); tags = rw (u, z) (w .2) }
-    | inr ne ↦
-        let u : r .reads i ≡ p .reads i = at ∙ upd-other (p .reads) j i q ne in
-        record { was = and-from (ltb i slots) (is-open (p .reads i)) (a .0) (ap is-open (sym u) ∙ a .1); object = ap (λ (z : Read). z .object) u; tags = ap (λ (z : Read). z .tags) u } ]
+      | inl z ↦
+          let u : r .reads i ≡ q = at ∙ ap (upd (p .reads) j q) z ∙ upd-same (p .reads) j q in
+          let w = h (ap is-open (sym u) ∙ a .1) in
+          record { was = and-from (ltb i slots) (is-open (p .reads i)) (a .0) (rw z (w .0)); object = rw (u, z) (w .1); tags = rw (u, z) (w .2) }
+      | inr ne ↦
+          let u : r .reads i ≡ p .reads i = at ∙ upd-other (p .reads) j i q ne in
+          record { was = and-from (ltb i slots) (is-open (p .reads i)) (a .0) (ap is-open (sym u) ∙ a .1); object = ap (λ (z : Read). z .object) u; tags = ap (λ (z : Read). z .tags) u }
+    ]
 
 -- a place that gets a read that is not open leaves the open reads
 shut : (rs : ℕ → Read) (i : ℕ) (q : Read) → is-open q ≡ false → (k : ℕ) → (ltb k slots && is-open (upd rs i q k)) ≡ true → upd rs i q k ≡ rs k
 shut rs i q c k e = elim (cases-eq k i) [
-    inl w ↦ absurd (both-ways (is-open q) c (ap is-open (sym (ap (upd rs i q) w ∙ upd-same rs i q)) ∙ and-parts (ltb k slots) (is-open (upd rs i q k)) e .1))
-  | inr ne ↦ upd-other rs i k q ne ]
+  | inl w ↦ absurd (both-ways (is-open q) c (ap is-open (sym (ap (upd rs i q) w ∙ upd-same rs i q)) ∙ and-parts (ltb k slots) (is-open (upd rs i q k)) e .1))
+  | inr ne ↦ upd-other rs i k q ne
+]
 
 -- the waiting writes are as before, or the front of the lane from a joins them
 pub data Queues (a : ℕ) (lane : List Message) (p r : Server) : Type 0 where
@@ -125,10 +114,10 @@ module _ (g : Code) (S : State) (Φ : Turn → Type 0) (refused : (r : ℕ) → 
       let xk = read-object g s x l ok in
       cond-both (a && (not b || f .first-way)) first second Φ (λ e. one sn xk (leb-true (p .own x) t (and-parts a (not b || f .first-way) e .0)))
       (λ e. cond-both b other (unless (open-refusal g S s) S third) Φ
-        (λ q. let w = and-parts (leb t (p .own x)) (f .recovered) q in two sn xk (leb-true t (p .own x) (w .0)) (w .1))
-        (λ q. unless-both Φ (open-refusal g S s) S third (refused _) (λ free.
-          let hi : t < p .own x = ⊎-elim (λ w. leb-false (p .own x) t w) (λ (w : (not b || f .first-way) ≡ false). absurd (both-ways b q (not-false b (or-parts (not b) (f .first-way) w .0)))) (and-cases a (not b || f .first-way) e) in
-          three sn xk hi (⊎-elim (λ (w : leb t (p .own x) ≡ false). absurd (let z = leb-false t (p .own x) w in omega arith)) (λ w. w) (and-cases (leb t (p .own x)) (f .recovered) q)) free))))
+      (λ q. let w = and-parts (leb t (p .own x)) (f .recovered) q in two sn xk (leb-true t (p .own x) (w .0)) (w .1))
+      (λ q. unless-both Φ (open-refusal g S s) S third (refused _) (λ free.
+      let hi : t < p .own x = ⊎-elim (λ w. leb-false (p .own x) t w) (λ (w : (not b || f .first-way) ≡ false). absurd (both-ways b q (not-false b (or-parts (not b) (f .first-way) w .0)))) (and-cases a (not b || f .first-way) e) in
+      three sn xk hi (⊎-elim (λ (w : leb t (p .own x) ≡ false). absurd (let z = leb-false t (p .own x) w in omega arith)) (λ w. w) (and-cases (leb t (p .own x)) (f .recovered) q)) free))))
 
   collect-server : (s m l : ℕ) → collect-refusal g S s m l ≡ 0 → s < g .n
   unfolding collect-refusal
@@ -156,7 +145,7 @@ module _ (g : Code) (S : State) (Φ : Turn → Type 0) (refused : (r : ℕ) → 
       → ((t : ℕ) (v : List ℕ) → s < g .n → x < g .k → S .servers s .own x < t → enters (S .servers s .history) x t ≡ true → Φ (turn (Outcome 1) (move-done g S s x t v)))
       → (s < g .n → x < g .k → f .recovered ≡ true → Φ (turn (Outcome 3) (enter-done g S s (record { object = x; tag = S .servers s .own x; value = f .value }))))
       → (s < g .n → x < g .k → holds (S .servers s .history) x (S .servers s .own x) ≡ false → f .recovered ≡ false
-          → is-open (S .servers s .reads (clients + x)) ≡ false → ltb (S .servers s .opened) most-reads ≡ true → Φ (turn (Outcome 4) (open-done g S s (clients + x) x)))
+      → is-open (S .servers s .reads (clients + x)) ≡ false → ltb (S .servers s .opened) most-reads ≡ true → Φ (turn (Outcome 4) (open-done g S s (clients + x) x)))
       → Φ (encode g S s x f)
   unfolding encode encode-contained encode-other
   encode-cases s x f stay moves enters-own asks =
@@ -180,15 +169,15 @@ module _ (g : Code) (S : State) (Φ : Turn → Type 0) (refused : (r : ℕ) → 
       let sn = object-server g s x ok in
       let xk = object-object g s x ok in
       cond-both (has g s x) contained other Φ
-        (λ i. cond-both (leb t (p .own x)) (turn (Outcome 0) S) second Φ (λ _. stay 0 (λ e. omega arith)) (λ hi.
-          cond-both (holds (p .history) x (p .own x)) moving third Φ
-            (λ _. unless-both Φ (check (room g S s) 17 0) S move (refused _) (λ _. moves t sym′ sn xk (leb-false t (p .own x) hi) (found s x (λ _. true) hi)))
-          (λ q. cond-both (is-open (p .reads (clients + x))) (turn (Outcome 2) S) fourth Φ (λ _. stay 2 (λ e. omega arith))
-          (λ shut. cond-both (f .recovered) entering asking Φ
-            (λ w. unless-both Φ (check (history-room g S s) 15 0) S enter (refused _) (λ _. enters-own sn xk w))
-            (λ w. unless-both Φ (check (ltb (p .opened) most-reads) 14 (check (room g S s) 17 0)) S ask (refused _) (λ ok. asks sn xk q w shut (checked (ltb (p .opened) most-reads) 14 _ (omega arith) ok .0)))))))
-        (λ i. cond-both (leb u (p .own x)) (turn (Outcome 0) S) (unless (check (room g S s) 17 0) S other-move) Φ (λ _. stay 0 (λ e. omega arith)) (λ hi.
-          unless-both Φ (check (room g S s) 17 0) S other-move (refused _) (λ _. moves u (p .symbol) sn xk (leb-false u (p .own x) hi) (found s x (within g p x) hi)))))
+      (λ i. cond-both (leb t (p .own x)) (turn (Outcome 0) S) second Φ (λ _. stay 0 (λ e. omega arith)) (λ hi.
+      cond-both (holds (p .history) x (p .own x)) moving third Φ
+      (λ _. unless-both Φ (check (room g S s) 17 0) S move (refused _) (λ _. moves t sym′ sn xk (leb-false t (p .own x) hi) (found s x (λ _. true) hi)))
+      (λ q. cond-both (is-open (p .reads (clients + x))) (turn (Outcome 2) S) fourth Φ (λ _. stay 2 (λ e. omega arith))
+      (λ shut. cond-both (f .recovered) entering asking Φ
+      (λ w. unless-both Φ (check (history-room g S s) 15 0) S enter (refused _) (λ _. enters-own sn xk w))
+      (λ w. unless-both Φ (check (ltb (p .opened) most-reads) 14 (check (room g S s) 17 0)) S ask (refused _) (λ ok. asks sn xk q w shut (checked (ltb (p .opened) most-reads) 14 _ (omega arith) ok .0)))))))
+      (λ i. cond-both (leb u (p .own x)) (turn (Outcome 0) S) (unless (check (room g S s) 17 0) S other-move) Φ (λ _. stay 0 (λ e. omega arith)) (λ hi.
+      unless-both Φ (check (room g S s) 17 0) S other-move (refused _) (λ _. moves u (p .symbol) sn xk (leb-false u (p .own x) hi) (found s x (within g p x) hi)))))
     where
       found : (s x : ℕ) (d : ℕ → Bool) → leb (highest d x (S .servers s .history)) (S .servers s .own x) ≡ false → enters (S .servers s .history) x (highest d x (S .servers s .history)) ≡ true
       found s x d e =
@@ -196,19 +185,19 @@ module _ (g : Code) (S : State) (Φ : Turn → Type 0) (refused : (r : ℕ) → 
           ⊎-elim (λ (z : highest d x (S .servers s .history) ≡ 0). absurd (omega arith)) (λ z. z .0) (highest-found d x (S .servers s .history))
 
   module _ (a b : ℕ) where
-   -- the receiver with the mended symbol in hand
-   abbrev pub waiting-on : ℕ → List ℕ → List ℕ → Server
-   waiting-on m v st =
-       let p = S .servers b in
-       let i = open-slot g p m in
-       reading p (upd (p .reads) i (in-hand (p .reads i) a (mended g p a (p .reads i) v st (g .k))))
+    -- the receiver with the mended symbol in hand
+    abbrev pub waiting-on : ℕ → List ℕ → List ℕ → Server
+    waiting-on m v st =
+        let p = S .servers b in
+        let i = open-slot g p m in
+        reading p (upd (p .reads) i (in-hand (p .reads i) a (mended g p a (p .reads i) v st (g .k))))
 
   -- a delivery ends in a state in which the receiver is another, or in a reply
   pub deliver-cases : (a b : ℕ) (f : Found)
       → ((o : ℕ) (r : Server) → Receives a (S .lanes a b) (S .servers b) r → ((i : ℕ) → (ltb i slots && is-open (r .reads i)) ≡ true → r .reads i ≡ S .servers b .reads i) → Φ (turn (Outcome o) (take-done g S a b r)))
       → ((m : ℕ) (v st : List ℕ) (ms : List Message) → a < g .n → b < g .n → S .lanes a b ≡ Coded m v st ∷ ms → ltb (open-slot g (S .servers b) m) slots ≡ true → f .recovered ≡ false
-          → mendable g (S .servers b) a (S .servers b .reads (open-slot g (S .servers b) m)) st ≡ true
-          → Receives a (S .lanes a b) (S .servers b) (waiting-on a b m v st) → Φ (turn (Outcome 3) (take-done g S a b (waiting-on a b m v st))))
+      → mendable g (S .servers b) a (S .servers b .reads (open-slot g (S .servers b) m)) st ≡ true
+      → Receives a (S .lanes a b) (S .servers b) (waiting-on a b m v st) → Φ (turn (Outcome 3) (take-done g S a b (waiting-on a b m v st))))
       → ((o m x : ℕ) (T : List ℕ) → Φ (turn (Outcome o) (question-done g S a b (reply g b (S .servers b) m x T))))
       → Φ (deliver g S a b f)
   unfolding deliver
@@ -216,13 +205,16 @@ module _ (g : Code) (S : State) (Φ : Turn → Type 0) (refused : (r : ℕ) → 
     where
       plain : (r : Server) → r .clock ≡ S .servers b .clock → Queues a (S .lanes a b) (S .servers b) r → r .top ≡ S .servers b .top → r .own ≡ S .servers b .own → r .history ≡ S .servers b .history → ((i : ℕ) → (ltb i slots && is-open (r .reads i)) ≡ true → Was-open (S .servers b) r i) → Receives a (S .lanes a b) (S .servers b) r
       plain r c w t o h q = record { clock = c; waiting = w; top = t; own = o; history = as-was h; reads = q }
+
       found-open : (m : ℕ) → ltb (open-slot g (S .servers b) m) slots ≡ true → (ltb (open-slot g (S .servers b) m) slots && is-open (S .servers b .reads (open-slot g (S .servers b) m))) ≡ true
       found-open m e = and-from (ltb (open-slot g (S .servers b) m) slots) (is-open (S .servers b .reads (open-slot g (S .servers b) m))) e (open-found g (S .servers b) m e .0)
+
       settles : (i : ℕ) (r : Read) (v : List ℕ) → (ltb i slots && is-open (S .servers b .reads i)) ≡ true → r .object ≡ S .servers b .reads i .object → r .tags ≡ S .servers b .reads i .tags → Φ (settle g S a b i r v)
       settles i r v lv eo et = unfold settle in
           cond-both (ltb i clients) (turn (Outcome 4) (take-done g S a b (client-answer g (S .servers b) i r v))) (unless (check (history-room g S b) 15 0) S (turn (Outcome 4) (take-done g S a b (internal-answer g (S .servers b) i r v)))) Φ
-            (λ _. takes 4 (client-answer g (S .servers b) i r v) (unfold reading in plain (client-answer g (S .servers b) i r v) refl (as-before refl) refl refl refl (open-upd (S .servers b) (client-answer g (S .servers b) i r v) i (answered r v (r .tags (r .object)) 3) refl (λ z. absurd (both-ways false refl z)))) (unfold reading in shut (S .servers b .reads) i (answered r v (r .tags (r .object)) 3) refl))
-            (λ _. unless-both Φ (check (history-room g S b) 15 0) S (turn (Outcome 4) (take-done g S a b (internal-answer g (S .servers b) i r v))) (refused _) (λ _. takes 4 (internal-answer g (S .servers b) i r v) (unfold reading entered in record { clock = refl; waiting = as-before refl; top = refl; own = refl; history = answer-of i v lv (ap₂ (λ (x : ℕ) (T : ℕ → ℕ). S .servers b .history ++ record { object = x; tag = T x; value = v } ∷ []) eo et); reads = open-upd (S .servers b) (internal-answer g (S .servers b) i r v) i no-read refl (λ z. absurd (both-ways false refl z)) }) (unfold reading entered in shut (S .servers b .reads) i no-read refl)))
+          (λ _. takes 4 (client-answer g (S .servers b) i r v) (unfold reading in plain (client-answer g (S .servers b) i r v) refl (as-before refl) refl refl refl (open-upd (S .servers b) (client-answer g (S .servers b) i r v) i (answered r v (r .tags (r .object)) 3) refl (λ z. absurd (both-ways false refl z)))) (unfold reading in shut (S .servers b .reads) i (answered r v (r .tags (r .object)) 3) refl))
+          (λ _. unless-both Φ (check (history-room g S b) 15 0) S (turn (Outcome 4) (take-done g S a b (internal-answer g (S .servers b) i r v))) (refused _) (λ _. takes 4 (internal-answer g (S .servers b) i r v) (unfold reading entered in record { clock = refl; waiting = as-before refl; top = refl; own = refl; history = answer-of i v lv (ap₂ (λ (x : ℕ) (T : ℕ → ℕ). S .servers b .history ++ record { object = x; tag = T x; value = v } ∷ []) eo et); reads = open-upd (S .servers b) (internal-answer g (S .servers b) i r v) i no-read refl (λ z. absurd (both-ways false refl z)) }) (unfold reading entered in shut (S .servers b .reads) i no-read refl)))
+
       gets : (z : Message) (ms : List Message) → a < g .n → b < g .n → S .lanes a b ≡ z ∷ ms → Φ (got g S a b z f)
       gets (Written x v t ck) ms an bn l = unfold got in unless-both Φ (check (ltb (length (S .servers b .waiting)) queue) 18 0) S
           (turn (Outcome 0) (take-done g S a b (queued (S .servers b) (S .servers b .waiting ++ record { object = x; tag = tag t a; value = v; clock = ck } ∷ [])))) (refused _) (λ _. takes 0 _ (unfold queued in plain (queued (S .servers b) (S .servers b .waiting ++ record { object = x; tag = tag t a; value = v; clock = ck } ∷ [])) refl (joins x v t ck ms l refl) refl refl refl (open-same (S .servers b) _ refl)) (λ i e. unfold queued in refl))
@@ -240,10 +232,11 @@ module _ (g : Code) (S : State) (Φ : Turn → Type 0) (refused : (r : ℕ) → 
           let useless = turn (Outcome 6) (take-done g S a b p) in
           let wait = turn (Outcome 3) (take-done g S a b (reading p (upd (p .reads) i r′))) in
           cond-both (ltb i slots) (cond (mendable g p a r st) (cond (f .recovered) (settle g S a b i r′ (f .value)) wait) useless) (turn (Outcome 5) (take-done g S a b p)) Φ
-            (λ e. cond-both (mendable g p a r st) (cond (f .recovered) (settle g S a b i r′ (f .value)) wait) useless Φ
-              (λ mend. cond-both (f .recovered) (settle g S a b i r′ (f .value)) wait Φ (λ _. settles i r′ (f .value) (found-open m e) refl refl) (λ q. waits m v st ms an bn l e q mend (unfold reading in plain (reading p (upd (p .reads) i r′)) refl (as-before refl) refl refl refl (open-upd p (reading p (upd (p .reads) i r′)) i r′ refl (λ z. (z, refl, refl))))))
-              (λ _. takes 6 p (plain p refl (as-before refl) refl refl refl (open-same p p refl)) (λ i e. refl)))
-            (λ _. takes 5 p (plain p refl (as-before refl) refl refl refl (open-same p p refl)) (λ i e. refl))
+          (λ e. cond-both (mendable g p a r st) (cond (f .recovered) (settle g S a b i r′ (f .value)) wait) useless Φ
+          (λ mend. cond-both (f .recovered) (settle g S a b i r′ (f .value)) wait Φ (λ _. settles i r′ (f .value) (found-open m e) refl refl) (λ q. waits m v st ms an bn l e q mend (unfold reading in plain (reading p (upd (p .reads) i r′)) refl (as-before refl) refl refl refl (open-upd p (reading p (upd (p .reads) i r′)) i r′ refl (λ z. (z, refl, refl))))))
+          (λ _. takes 6 p (plain p refl (as-before refl) refl refl refl (open-same p p refl)) (λ i e. refl)))
+          (λ _. takes 5 p (plain p refl (as-before refl) refl refl refl (open-same p p refl)) (λ i e. refl))
+
       front : a < g .n → b < g .n → (l : List Message) → S .lanes a b ≡ l → Φ (oldest g S a b l f)
       front an bn [] q = unfold oldest in refused 13
       front an bn (m ∷ ms) q = unfold oldest in cond-both (fits g m) (got g S a b m f) (turn (Outcome 7) (take-done g S a b (S .servers b))) Φ (λ _. gets m ms an bn q) (λ _. takes 7 (S .servers b) (plain (S .servers b) refl (as-before refl) refl refl refl (open-same (S .servers b) (S .servers b) refl)) (λ i e. refl))

@@ -1,60 +1,29 @@
 -- In every run every symbol is the code of what was written under the server's own tags.
 use mathlib.Core.Path.{_≡_, refl, sym, ap, _∙_, subst}
-use mathlib.Core.List.{List, [], _∷_, _++_}
-use mathlib.Core.Bool.{Bool, true, false, cond, _&&_, _||_, not}
-use mathlib.Core.Logic.{_⊎_, inl, inr, ⊎-elim}
-use Prim.Native.Nat.{ℕ, zero, suc, _+_, _-_, _<_, _≤_, min, max}
+use mathlib.Core.List.{List, [], _∷_, _++_, append-nil}
+use mathlib.Core.Bool.{true, false, _&&_}
+use Prim.Native.Nat.{ℕ, _+_, _-_, _<_, _≤_, _/_, _%_}
 use native.Mathlib.Omega.{arith}
-use lib.Dec.{eqb, ltb, leb}
-use lib.ListN.{getD, length, drop}
-use Rattle.std.specs.shelf.Lists.{kept-by}
-use Rattle.std.proofs.shelf.Ways.{tells}
-use Rattle.std.proofs.shelf.Tests.{or-from, and-right, both-ways, cases-bool, cases-eq, cases-order, cases-lt, eq-eqb, ne-eqb, eqb-true, eqb-false, ltb-true, ltb-false, leb-true, leb-false, lt-ltb, and-parts, and-from, and-cases, or-cases, or-parts, or-left, or-right, not-true, not-false, cond-both, cond-true, cond-false}
-use Rattle.rules.proofs.RankedMessages.{Message, Written, Tagged, Question, Plain, Coded, tag}
-use Rattle.rules.proofs.RankedWords.{upd, listed, every, some, seek, lowest, Lanes, posted, spread, taken, free}
-use Rattle.rules.proofs.Core.{Core, heard, Good, Sound, Asked}
-use Rattle.rules.proofs.Ranked.{Code, Entry, Waiting, Read, Server, State, has, holds, enters, same-entry, kept, highest, top-tag, zeros, swap, is-open, core, slots, clients, depth, queue, most-writes, most-reads, most-height, no-read, fresh}
-use Rattle.std.specs.declared.option.Option.{Option}
-use Rattle.std.specs.declared.option.Option.the-variants.{None, Some}
-use Rattle.std.proofs.shelf.Counted.{getD-map-counting}
+use lib.Dec.{eqb, ltb}
+use lib.ListN.{getD, length}
+use Rattle.std.proofs.shelf.Tests.{and-right, both-ways, eq-eqb, eqb-true, ltb-true, and-from, or-right}
+use Rattle.rules.proofs.RankedMessages.{tag}
+use Rattle.rules.proofs.Ranked.{Code, Entry, State, enters, same-entry, slots, fresh}
 use Rattle.rules.proofs.RankedSteps as Steps
-use Rattle.rules.proofs.RankedSteps.{Call, Write, Ask, Collect, Deliver, Apply, Encode, Sweep, Answer, Refused, Tag, Value, Number, Still, Nothing, Outcome, Count, Found, Turn, turn, check, unless, write-refusal, open-refusal, read-refusal, read-found, collect-refusal, collect-at, object-refusal, lane-refusal, put, entered, counted, queued, sifted, reading, tells as hearing, moved, new-read, opening, answered, in-hand, overtaken, Picked, room, history-room, elements, write-tag, write-done, write, open-done, free-slot, open-read, from-history, from-symbol, read, client-slot, collect-done, collect, wait-tag, picked, apply-done, apply-picked, apply, move-done, enter-done, encode-contained, within, encode-other, encode, floor, wanted, stays, settled, swept, sweep-done, sweep, fits, states, mixed, reply, question-done, open-slot, take-done, internal-answer, client-answer, settle, mendable, mended, got, oldest, deliver, step, after, run}
-use Rattle.rules.proofs.Words.{upd-same, upd-other, upd-keeps, upd-each, every-at, every-from, some-from, seek-found, lowest-le, enters-push, holds-push, enters-sift, highest-found}
-use Rattle.rules.proofs.Carry.{Carry, good-carry}
-use Rattle.rules.proofs.Take.{Take, take-keeps}
+use Rattle.rules.proofs.RankedSteps.{Call, Write, Ask, Collect, Deliver, Apply, Encode, Sweep, Tag, Found, turn, unless, write-refusal, entered, counted, reading, elements, write-tag, write-done, write, step, after}
+use Rattle.rules.proofs.Words.{upd-same, every-at, enters-push}
 use Rattle.rules.proofs.Move
-use Rattle.rules.proofs.Move.{move-keeps}
 use Rattle.rules.proofs.Sweep
-use Rattle.rules.proofs.Sweep.{Idle, below, level, sweep-keeps}
-use Rattle.rules.proofs.Replies.{stated, opens, replies, counts, usable, starts}
-use Rattle.rules.proofs.Frames.{Slot, same, fresh-read, Mild, mild-self, spread-from, spread-else, taken-here, taken-else, with-lanes, Fine, fine-put, fine-spread, fine-post, fine-take}
-use mathlib.Core.Path.{ap₂}
-use Rattle.std.specs.shelf.Lists.{All}
-use Rattle.std.proofs.shelf.Elements.{all-push, all-drop, all-kept-by, all-weaker}
-use Rattle.std.proofs.shelf.Counted.{length-map-counting, fill-by-all}
-use Rattle.rules.proofs.Core.{Replied}
-use Rattle.rules.proofs.RankedLaw.{mix, Lawful, Decoded, Tested, only, Allowed, Allowed-message}
-use Rattle.rules.proofs.Calls.{unless-both, checked, object-server, object-object, read-server}
-use Rattle.rules.proofs.Deliver.{lane-ends, states-stated, open-found, mends}
-use Rattle.rules.proofs.Source.{Owner, Sent, Sourced, waited}
-use Rattle.rules.proofs.Algebra.{Cells, Mix, mix-symbol, mix-tags, swap-mix, mix-same}
-use Rattle.rules.proofs.Calls.{overtaken-open, read-object}
-use Rattle.rules.proofs.Values.{live, Same-read, Still-reads, still-self, Of-entry, Of-tag, Right, Told, Valued, kept-right, lanes-still, put-still, put-valued}
-use Rattle.rules.proofs.Words.{ltb-step, upto, upto-none, upto-all, upto-here, upto-next, upto-else}
-use Rattle.rules.proofs.Valuing.{closed-same, still-same, right-same, decoded-right}
-use Rattle.rules.proofs.Source.{Found-right}
-use Rattle.rules.proofs.Mixing.{reply-right, states-of, held-of, mended-right}
-use Prim.Native.Nat.{_*_, _/_, _%_}
-use mathlib.Core.List.{append-nil, append-assoc}
-use Rattle.rules.proofs.RankedLaw.{Event, event, events, accepted-by, accepted, given, Coded-right, Allowed-run}
-use Rattle.rules.proofs.Valuing.{write-valued, read-valued, collect-valued, apply-valued, encode-valued, sweep-valued}
-use Rattle.rules.proofs.Carrying.{deliver-valued, found-right}
-use Rattle.rules.proofs.Source.{write-sourced, read-sourced, collect-sourced, apply-sourced, encode-sourced, sweep-sourced, deliver-sourced}
-use Rattle.rules.proofs.Cases.{write-cases, apply-cases, read-cases, collect-cases, sweep-cases, encode-cases, deliver-cases}
-use Rattle.rules.proofs.Always.{Stands, step-stands, fresh-stands}
-use Rattle.rules.proofs.RankedLaw.{Coded-always}
-use Rattle.rules.proofs.Algebra.{no-cells, no-mix}
-use Rattle.rules.proofs.Growing.{Told-right, Tops, step-told, cells-grow, sourced-grow, valued-grow, kept-new, new-tag, rises}
+use Rattle.std.proofs.shelf.Elements.{all-push, all-weaker}
+use Rattle.rules.proofs.RankedFacts.{Lawful, Allowed, accepted-by}
+use Rattle.rules.proofs.Calls.{checked}
+use Rattle.rules.proofs.Source.{write-sourced}
+use Rattle.rules.proofs.Algebra.{Cells, no-cells, no-mix}
+use Rattle.rules.proofs.Values.{Of-entry, Of-tag}
+use Rattle.rules.proofs.Valuing.{write-valued}
+use Rattle.rules.proofs.Cases.{write-cases}
+use Rattle.rules.proofs.Always.{step-stands, fresh-stands}
+use Rattle.rules.proofs.Growing.{Told-right, step-told, cells-grow, sourced-grow, valued-grow, kept-new, new-tag, rises}
 
 pub checked-write : (g : Code) (S : State) (s x : ℕ) (v : List ℕ) → write-refusal g S s x v ≡ 0 → (s < g .n) × (length v ≡ g .w) × (elements g v ≡ true)
 unfolding write-refusal
@@ -79,29 +48,37 @@ module _ (g : Code) (R : Lawful g) (L : List Entry) (S : State) (h : Told-right 
 
   write-told : (s x : ℕ) (v : List ℕ) (f : Found) → write-refusal g S s x v ≡ 0 → Told-right g R (L ++ record { object = x; tag = write-tag g (S .servers s) s; value = v } ∷ []) (write-done g S s x v)
   write-told s x v f ok = subst (Told-right g R N) (written-next g S s x v ok) (record {
-        stands = step-stands g R S (record { call = Write s x v; found = f }) (h .stands)
-      ; cells = cells
-      ; sourced = write-sourced g (Of-entry g R N) (Of-tag g R N) (λ d q. q .0) (λ y. refl) S (sourced-grow g R L e pos S (h .sourced)) s x v (λ _.
-          (or-right (eqb (e .tag) 0) (enters N x (e .tag)) (enters-push L e x (e .tag) ∙ or-right (enters L x (e .tag)) (same-entry x (e .tag) e) (and-from (eqb x x) (eqb (e .tag) (e .tag)) (eq-eqb x x refl) (eq-eqb (e .tag) (e .tag) refl))),
-           sym (kept-new g L e pos (new-tag L s (S .servers s .top) x (let l = R .few in let m = w .0 in omega arith) (h .tops s (w .0))))))
-      ; valued = write-valued g R N cells S (h .stands .fine) (sourced-grow g R L e pos S (h .sourced)) (valued-grow g R L e pos S (h .sourced) (h .valued)) s x v
-      ; tops = λ i inn. all-push (λ d. (d .tag % 6 ≡ i) → d .tag / 6 ≤ (write g S s x v .next) .servers i .top) L e
-          (all-weaker (λ d. (d .tag % 6 ≡ i) → d .tag / 6 ≤ S .servers i .top) (λ d. (d .tag % 6 ≡ i) → d .tag / 6 ≤ (write g S s x v .next) .servers i .top)
-            (λ d q z. let a = q z in let b = rises g S (Write s x v) f i in omega arith) L (h .tops i inn))
-          (λ z. let si : s ≡ i = server-of i z in rw (← si, written-next g S s x v ok) (let t = top-after g S s x v in let hi = height-of in omega arith)) })
+    stands = step-stands g R S (record { call = Write s x v; found = f }) (h .stands);
+    cells = cells;
+    sourced = write-sourced g (Of-entry g R N) (Of-tag g R N) (λ d q. q .0) (λ y. refl) S (sourced-grow g R L e pos S (h .sourced)) s x v (λ _. (
+      or-right (eqb (e .tag) 0) (enters N x (e .tag)) (enters-push L e x (e .tag) ∙ or-right (enters L x (e .tag)) (same-entry x (e .tag) e) (and-from (eqb x x) (eqb (e .tag) (e .tag)) (eq-eqb x x refl) (eq-eqb (e .tag) (e .tag) refl))),
+      sym (kept-new g L e pos (new-tag L s (S .servers s .top) x (let l = R .few in let m = w .0 in omega arith) (h .tops s (w .0)))),
+    ));
+    valued = write-valued g R N cells S (h .stands .fine) (sourced-grow g R L e pos S (h .sourced)) (valued-grow g R L e pos S (h .sourced) (h .valued)) s x v;
+    tops = λ i inn. all-push (λ d. (d .tag % 6 ≡ i) → d .tag / 6 ≤ (write g S s x v .next) .servers i .top) L e
+        (all-weaker (λ d. (d .tag % 6 ≡ i) → d .tag / 6 ≤ S .servers i .top) (λ d. (d .tag % 6 ≡ i) → d .tag / 6 ≤ (write g S s x v .next) .servers i .top)
+        (λ d q z. let a = q z in let b = rises g S (Write s x v) f i in omega arith) L (h .tops i inn))
+        (λ z. let si : s ≡ i = server-of i z in rw (← si, written-next g S s x v ok) (let t = top-after g S s x v in let hi = height-of in omega arith));
+  })
     where
       e : Entry
       e = record { object = x; tag = write-tag g (S .servers s) s; value = v }
+
       N : List Entry
       N = L ++ e ∷ []
+
       w : (s < g .n) × (length v ≡ g .w) × (elements g v ≡ true)
       w = checked-write g S s x v ok
+
       pos : 0 < e .tag
       pos = omega arith
+
       cells : Cells g R N
       cells = cells-grow g R L e pos (h .cells) (w .1) (λ c lt. ltb-true (getD v c 0) (g .q) (every-at (g .w) (λ c. ltb (getD v c 0) (g .q)) (w .2) c lt))
+
       server-of : (i : ℕ) → e .tag % 6 ≡ i → s ≡ i
       server-of i z = let l = R .few in let m = w .0 in omega arith
+
       height-of : e .tag / 6 ≡ S .servers s .top + 1
       height-of = let l = R .few in let m = w .0 in omega arith
 
@@ -117,21 +94,11 @@ module _ (g : Code) (R : Lawful g) (L : List Entry) (S : State) (h : Told-right 
   move-told (Encode s x) f ok = nothing-new (record { call = Encode s x; found = f }) ok (λ i y v e. let z : _≡_ {A = ℕ} 0 1 = cc in omega arith)
   move-told (Sweep s x) f ok = nothing-new (record { call = Sweep s x; found = f }) ok (λ i y v e. let z : _≡_ {A = ℕ} 0 1 = cc in omega arith)
 
-pub run-told : (g : Code) (R : Lawful g) (L : List Entry) (S : State) (ms : List Steps.Move) → Told-right g R L S → Allowed-run g S ms → Told-right g R (L ++ accepted (events g S ms)) (run g S ms)
-run-told g R L S [] h ok = rw (append-nil L) h
-run-told g R L S (m ∷ ms) h ok = rw (← append-assoc L (accepted-by (m .call) (step g S (m .call) (m .found) .answer)) (accepted (events g (after g S m) ms)))
-    (run-told g R (L ++ accepted-by (m .call) (step g S (m .call) (m .found) .answer)) (after g S m) ms (move-told g R L S h (m .call) (m .found) (ok .0)) (ok .1))
-
 pub fresh-told : (g : Code) (R : Lawful g) → Told-right g R [] (fresh g)
 fresh-told g R = record {
-    stands = fresh-stands g R
-  ; cells = no-cells g R
-  ; sourced = record { servers = λ s. record { own = λ x. refl; history = tt; waiting = tt; reads = λ i y. refl }; lanes = λ a b. tt }
-  ; valued = record { servers = λ s sn. record { symbol = no-mix g R s sn; object = λ i e. absurd (both-ways (ltb i slots && false) (and-right (ltb i slots) false refl) e); hand = λ i e. absurd (both-ways (ltb i slots && false) (and-right (ltb i slots) false refl) e) }; lanes = λ a b an bn ne. tt }
-  ; tops = λ s sn. tt }
-
-pub coded-always : Coded-always
-coded-always g R ms ok s sn =
-    let h = run-told g R [] (fresh g) ms (fresh-told g R) ok in
-    let S = run g (fresh g) ms in
-    ((λ x. h .sourced .servers s .own x), mix-symbol g R (accepted (events g (fresh g) ms)) s (S .servers s .own) (S .servers s .symbol) (h .valued .servers s sn .symbol))
+  stands = fresh-stands g R;
+  cells = no-cells g R;
+  sourced = record { servers = λ s. record { own = λ x. refl; history = tt; waiting = tt; reads = λ i y. refl }; lanes = λ a b. tt };
+  valued = record { servers = λ s sn. record { symbol = no-mix g R s sn; object = λ i e. absurd (both-ways (ltb i slots && false) (and-right (ltb i slots) false refl) e); hand = λ i e. absurd (both-ways (ltb i slots && false) (and-right (ltb i slots) false refl) e) }; lanes = λ a b an bn ne. tt };
+  tops = λ s sn. tt;
+}

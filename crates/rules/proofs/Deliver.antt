@@ -1,33 +1,24 @@
 -- A delivery keeps the core sound, and never answers 6.
-use mathlib.Core.Path.{_≡_, refl, sym, ap, _∙_, subst}
+use mathlib.Core.Path.{_≡_, refl, sym, ap, _∙_}
 use mathlib.Core.List.{List, [], _∷_, _++_}
 use mathlib.Core.Bool.{Bool, true, false, cond, _&&_, _||_, not}
 use mathlib.Core.Logic.{_⊎_, inl, inr, ⊎-elim}
-use Prim.Native.Nat.{ℕ, zero, suc, _+_, _-_, _<_, _≤_, min, max}
+use Prim.Native.Nat.{ℕ, _+_, _-_, _<_}
 use native.Mathlib.Omega.{arith}
-use lib.Dec.{eqb, ltb, leb}
-use lib.ListN.{getD, length, drop}
-use Rattle.std.specs.shelf.Lists.{kept-by}
-use Rattle.std.proofs.shelf.Ways.{tells}
-use Rattle.std.proofs.shelf.Tests.{both-ways, cases-bool, cases-eq, cases-order, cases-lt, eq-eqb, ne-eqb, eqb-true, eqb-false, ltb-true, ltb-false, leb-true, leb-false, lt-ltb, and-parts, and-from, and-cases, or-cases, or-parts, or-left, or-right, not-true, not-false, cond-both, cond-true, cond-false}
-use Rattle.rules.proofs.RankedMessages.{Message, Written, Tagged, Question, Plain, Coded, tag, height, server}
-use Rattle.rules.proofs.RankedWords.{upd, listed, every, some, seek, lowest, Lanes, posted, spread, taken, free}
-use Rattle.rules.proofs.Core.{Core, heard, Good, Sound, Asked}
-use Rattle.rules.proofs.Ranked.{Code, Entry, Waiting, Read, Server, State, has, holds, enters, same-entry, kept, highest, top-tag, zeros, swap, is-open, core, slots, clients, depth, queue, most-writes, most-reads, most-height, no-read, fresh}
-use Rattle.std.specs.declared.option.Option.{Option}
-use Rattle.std.specs.declared.option.Option.the-variants.{None, Some}
+use lib.Dec.{eqb, ltb}
+use lib.ListN.{getD, length}
+use Rattle.std.proofs.shelf.Tests.{both-ways, cases-bool, cases-eq, eq-eqb, ne-eqb, eqb-true, eqb-false, ltb-true, and-parts, and-from, or-left, or-right, not-true, cond-both}
+use Rattle.rules.proofs.RankedMessages.{Message, Written, Tagged, Question, Plain, Coded, tag}
+use Rattle.rules.proofs.RankedWords.{upd, listed, taken}
+use Rattle.rules.proofs.Core.{heard, Good}
+use Rattle.rules.proofs.Ranked.{Code, Read, Server, State, has, holds, kept, is-open, core, slots, clients, queue}
 use Rattle.std.proofs.shelf.Counted.{getD-map-counting}
-use Rattle.rules.proofs.RankedSteps as Steps
-use Rattle.rules.proofs.RankedSteps.{Call, Write, Ask, Collect, Deliver, Apply, Encode, Sweep, Answer, Refused, Tag, Value, Number, Still, Nothing, Outcome, Count, Found, Turn, turn, check, unless, write-refusal, open-refusal, read-refusal, read-found, collect-refusal, collect-at, object-refusal, lane-refusal, put, entered, counted, queued, sifted, reading, tells as hearing, moved, new-read, opening, answered, in-hand, overtaken, Picked, room, history-room, elements, write-tag, write-done, write, open-done, free-slot, open-read, from-history, from-symbol, read, client-slot, collect-done, collect, wait-tag, picked, apply-done, apply-picked, apply, move-done, enter-done, encode-contained, within, encode-other, encode, floor, wanted, stays, settled, swept, sweep-done, sweep, fits, states, mixed, reply, question-done, open-slot, take-done, internal-answer, client-answer, settle, mendable, mended, got, oldest, deliver, step, after, run}
-use Rattle.rules.proofs.Words.{upd-same, upd-other, upd-keeps, upd-each, every-at, every-from, some-from, seek-found, lowest-le, enters-push, holds-push, enters-sift, highest-found}
-use Rattle.rules.proofs.Carry.{Carry, good-carry}
-use Rattle.rules.proofs.Take.{Take, take-keeps}
-use Rattle.rules.proofs.Move
-use Rattle.rules.proofs.Move.{move-keeps}
-use Rattle.rules.proofs.Sweep
-use Rattle.rules.proofs.Sweep.{Idle, below, level, sweep-keeps}
-use Rattle.rules.proofs.Replies.{stated, opens, replies, counts, usable, starts}
-use Rattle.rules.proofs.Frames.{Slot, same, fresh-read, Mild, mild-self, spread-from, spread-else, taken-here, taken-else, with-lanes, Fine, fine-put, fine-spread, fine-post, fine-take}
+use Rattle.rules.proofs.RankedSteps.{Refused, Outcome, Found, Turn, turn, check, unless, lane-refusal, queued, reading, tells as hearing, answered, in-hand, history-room, fits, states, mixed, reply, question-done, open-slot, take-done, internal-answer, client-answer, settle, mendable, mended, got, oldest, deliver}
+use Rattle.rules.proofs.Words.{upd-same, upd-other, upd-keeps, every-from, seek-found}
+use Rattle.rules.proofs.Carry.{good-carry}
+use Rattle.rules.proofs.Take.{take-keeps}
+use Rattle.rules.proofs.Replies.{stated, replies, counts, usable}
+use Rattle.rules.proofs.Frames.{same, Mild, mild-self, taken-here, taken-else, with-lanes, Fine, fine-put, fine-post, fine-take}
 use Rattle.rules.proofs.Calls.{unless-both, checked, queued-mild, reading-mild, internal-mild}
 
 -- the two ends of a lane that is not refused
@@ -77,46 +68,51 @@ module _ (g : Code) (S : State) (h : Fine g S) (a b : ℕ) (an : a < g .n) (bn :
       let r = hearing p x a t in
       let R : State = record { servers = upd (S .servers) b r; lanes = taken (S .lanes) a b } in
       take-keeps (g .n) (g .k) (has g) (core S) (core R) a b (Tagged x t) an bn ne h (record {
-          own = λ i y. upd-keeps (λ (q : Server). q .own y) (S .servers) b i r refl
-        ; held = λ i y u. upd-keeps (λ (q : Server). holds (q .history) y u) (S .servers) b i r refl
-        ; live = λ i k. upd-keeps (λ (q : Server). ltb k slots && is-open (q .reads k)) (S .servers) b i r refl
-        ; num = λ i k. upd-keeps (λ (q : Server). q .reads k .number) (S .servers) b i r refl
-        ; want = λ i k y. upd-keeps (λ (q : Server). q .reads k .tags y) (S .servers) b i r refl
-        ; last = λ i. upd-keeps (λ (q : Server). q .opened) (S .servers) b i r refl
-        ; front = taken-here (S .lanes) a b (Tagged x t) ms e
-        ; others = λ i j. taken-else (S .lanes) a b i j
-        ; hears = λ y. ap (λ (q : Server). q .told y a) (upd-same (S .servers) b r) ∙ told-here y
-        ; else = λ i y j far. elim (cases-eq i b) [
-            inl q ↦ rw (q, upd-same (S .servers) b r) (told-else y j (λ z. far q z))
-          | inr w ↦ ap (λ (q : Server). q .told y j) (upd-other (S .servers) b i r w) ] })
+        own = λ i y. upd-keeps (λ (q : Server). q .own y) (S .servers) b i r refl;
+        held = λ i y u. upd-keeps (λ (q : Server). holds (q .history) y u) (S .servers) b i r refl;
+        live = λ i k. upd-keeps (λ (q : Server). ltb k slots && is-open (q .reads k)) (S .servers) b i r refl;
+        num = λ i k. upd-keeps (λ (q : Server). q .reads k .number) (S .servers) b i r refl;
+        want = λ i k y. upd-keeps (λ (q : Server). q .reads k .tags y) (S .servers) b i r refl;
+        last = λ i. upd-keeps (λ (q : Server). q .opened) (S .servers) b i r refl;
+        front = taken-here (S .lanes) a b (Tagged x t) ms e;
+        others = λ i j. taken-else (S .lanes) a b i j;
+        hears = λ y. ap (λ (q : Server). q .told y a) (upd-same (S .servers) b r) ∙ told-here y;
+        else = λ i y j far. elim (cases-eq i b) [
+          | inl q ↦ rw (q, upd-same (S .servers) b r) (told-else y j (λ z. far q z))
+          | inr w ↦ ap (λ (q : Server). q .told y j) (upd-other (S .servers) b i r w)
+        ];
+      })
     where
       told-here : (y : ℕ) → upd (S .servers b .told) x (upd (S .servers b .told x) a t) y a ≡ cond (eqb x y) t (S .servers b .told y a)
       told-here y = elim (cases-eq x y) [
-          inl q ↦ rw (eq-eqb x y q, ← q) (ap (λ (z : ℕ → ℕ). z a) (upd-same (S .servers b .told) x (upd (S .servers b .told x) a t)) ∙ upd-same (S .servers b .told x) a t)
-        | inr w ↦ rw (ne-eqb x y w) (ap (λ (z : ℕ → ℕ). z a) (upd-other (S .servers b .told) x y (upd (S .servers b .told x) a t) (λ z. w (sym z)))) ]
+        | inl q ↦ rw (eq-eqb x y q, ← q) (ap (λ (z : ℕ → ℕ). z a) (upd-same (S .servers b .told) x (upd (S .servers b .told x) a t)) ∙ upd-same (S .servers b .told x) a t)
+        | inr w ↦ rw (ne-eqb x y w) (ap (λ (z : ℕ → ℕ). z a) (upd-other (S .servers b .told) x y (upd (S .servers b .told x) a t) (λ z. w (sym z))))
+      ]
+
       told-else : (y j : ℕ) → (j ≡ a → ⊥) → upd (S .servers b .told) x (upd (S .servers b .told x) a t) y j ≡ S .servers b .told y j
       told-else y j far = elim (cases-eq y x) [
-          inl q ↦ rw q (ap (λ (z : ℕ → ℕ). z j) (upd-same (S .servers b .told) x (upd (S .servers b .told x) a t)) ∙ upd-other (S .servers b .told x) a j t far)
-        | inr w ↦ ap (λ (z : ℕ → ℕ). z j) (upd-other (S .servers b .told) x y (upd (S .servers b .told x) a t) w) ]
+        | inl q ↦ rw q (ap (λ (z : ℕ → ℕ). z j) (upd-same (S .servers b .told) x (upd (S .servers b .told x) a t)) ∙ upd-other (S .servers b .told x) a j t far)
+        | inr w ↦ ap (λ (z : ℕ → ℕ). z j) (upd-other (S .servers b .told) x y (upd (S .servers b .told x) a t) w)
+      ]
 
   -- what is good of a message in another lane stays good
   carried : (m : Message) → Good (g .n) (g .k) (has g) (core S) b a (S .lanes b a) m
       → Good (g .n) (g .k) (has g) (core (with-lanes S (taken (S .lanes) a b))) b a (taken (S .lanes) a b b a) m
   carried m q = rw (taken-else (S .lanes) a b b a (λ e _. ne (sym e)))
       (good-carry (g .n) (g .k) (has g) (core S) (core (with-lanes S (taken (S .lanes) a b))) b a (S .lanes b a) (S .lanes b a)
-        (record { last = λ s. omega arith; live = λ s i. refl; num = λ s i. refl; want = λ s i y. refl; same = λ y. refl; more = λ y u on. on; kept = λ y u i k. k; held = λ y u e. e }) m q)
+      (record { last = λ s. omega arith; live = λ s i. refl; num = λ s i. refl; want = λ s i y. refl; same = λ y. refl; more = λ y u on. on; kept = λ y u i k. k; held = λ y u e. e }) m q)
 
   question-fine : (m x : ℕ) (T : List ℕ) (ms : List Message) → S .lanes a b ≡ Question m x T ∷ ms → Fine g (question-done g S a b (reply g b (S .servers b) m x T))
   unfolding question-done
   question-fine m x T ms e =
       let p = S .servers b in
       fine-post g (with-lanes S (taken (S .lanes) a b)) b a (reply g b p m x T) (fine-take g S a b (Question m x T) ms an bn ne e h (λ y o. refl)) (reply-quiet g b p m x T)
-        (carried (reply g b p m x T)
-          (cond-both (holds (p .history) x (getD T x 0)) (Plain m (kept g (p .history) x (getD T x 0))) (Coded m (mixed g b p T (g .k)) (listed (g .k) (λ y. states g b p y (getD T y 0))))
-            (Good (g .n) (g .k) (has g) (core S) b a (S .lanes b a))
-            (λ _. counts (g .n) (g .k) (has g) (core S) h a b m x T ms an bn ne e)
-            (λ _. replies (g .n) (g .k) (has g) (core S) h a b m x T ms an bn ne e (mixed g b p T (g .k)) (listed (g .k) (λ y. states g b p y (getD T y 0)))
-              (λ y lt f. getD-map-counting (λ y. states g b p y (getD T y 0)) 0 (g .k) y y 0 lt (omega arith) ∙ states-stated g b p y (getD T y 0) f))))
+      (carried (reply g b p m x T)
+      (cond-both (holds (p .history) x (getD T x 0)) (Plain m (kept g (p .history) x (getD T x 0))) (Coded m (mixed g b p T (g .k)) (listed (g .k) (λ y. states g b p y (getD T y 0))))
+      (Good (g .n) (g .k) (has g) (core S) b a (S .lanes b a))
+      (λ _. counts (g .n) (g .k) (has g) (core S) h a b m x T ms an bn ne e)
+      (λ _. replies (g .n) (g .k) (has g) (core S) h a b m x T ms an bn ne e (mixed g b p T (g .k)) (listed (g .k) (λ y. states g b p y (getD T y 0)))
+      (λ y lt f. getD-map-counting (λ y. states g b p y (getD T y 0)) 0 (g .k) y y 0 lt (omega arith) ∙ states-stated g b p y (getD T y 0) f))))
 
   -- the read at the place i, with what is in hand or not, is answered
   settle-fine : (m : Message) (ms : List Message) (i : ℕ) (r : Read) (v : List ℕ) → S .lanes a b ≡ m ∷ ms → ((y o : ℕ) → heard y o m ≡ o) → Kept (settle g S a b i r v)
@@ -126,8 +122,8 @@ module _ (g : Code) (S : State) (h : Fine g S) (a b : ℕ) (an : a < g .n) (bn :
       let one = turn (Outcome 4) (take-done g S a b (client-answer g p i r v)) in
       let two = turn (Outcome 4) (take-done g S a b (internal-answer g p i r v)) in
       cond-both (ltb i clients) one (unless (check (history-room g S b) 15 0) S two) Kept
-        (λ _. taken-fine m ms (client-answer g p i r v) e quiet (reading-mild p i (answered r v (r .tags (r .object)) 3) (λ z. absurd (both-ways false refl z))))
-        (λ _. unless-both Kept (check (history-room g S b) 15 0) S two h (λ _. taken-fine m ms (internal-answer g p i r v) e quiet (internal-mild p i (record { object = r .object; tag = r .tags (r .object); value = v }))))
+      (λ _. taken-fine m ms (client-answer g p i r v) e quiet (reading-mild p i (answered r v (r .tags (r .object)) 3) (λ z. absurd (both-ways false refl z))))
+      (λ _. unless-both Kept (check (history-room g S b) 15 0) S two h (λ _. taken-fine m ms (internal-answer g p i r v) e quiet (internal-mild p i (record { object = r .object; tag = r .tags (r .object); value = v }))))
 
   got-fine : (m : Message) (ms : List Message) (f : Found) → S .lanes a b ≡ m ∷ ms → Kept (got g S a b m f)
   unfolding got
@@ -143,7 +139,7 @@ module _ (g : Code) (S : State) (h : Fine g S) (a b : ℕ) (an : a < g .n) (bn :
       let p = S .servers b in
       let i = open-slot g p m in
       cond-both (ltb i slots) (settle g S a b i (p .reads i) v) (turn (Outcome 5) (take-done g S a b p)) Kept
-        (λ _. settle-fine (Plain m v) ms i (p .reads i) v e (λ y o. refl)) (λ _. taken-fine (Plain m v) ms p e (λ y o. refl) (mild-self p))
+      (λ _. settle-fine (Plain m v) ms i (p .reads i) v e (λ y o. refl)) (λ _. taken-fine (Plain m v) ms p e (λ y o. refl) (mild-self p))
   got-fine (Coded m v st) ms f e =
       let p = S .servers b in
       let i = open-slot g p m in
@@ -154,12 +150,12 @@ module _ (g : Code) (S : State) (h : Fine g S) (a b : ℕ) (an : a < g .n) (bn :
       let wait = turn (Outcome 3) (take-done g S a b (reading p (upd (p .reads) i r′))) in
       let dropped = taken-fine (Coded m v st) ms p e (λ y o. refl) (mild-self p) in
       cond-both (ltb i slots) (cond (mendable g p a r st) (cond (f .recovered) (settle g S a b i r′ (f .value)) wait) useless) drop-it Kept
-        (λ _. cond-both (mendable g p a r st) (cond (f .recovered) (settle g S a b i r′ (f .value)) wait) useless Kept
-          (λ _. cond-both (f .recovered) (settle g S a b i r′ (f .value)) wait Kept
-            (λ _. settle-fine (Coded m v st) ms i r′ (f .value) e (λ y o. refl))
-            (λ _. taken-fine (Coded m v st) ms (reading p (upd (p .reads) i r′)) e (λ y o. refl) (reading-mild p i r′ (λ z. (z, refl, refl)))))
-          (λ _. dropped))
-        (λ _. dropped)
+      (λ _. cond-both (mendable g p a r st) (cond (f .recovered) (settle g S a b i r′ (f .value)) wait) useless Kept
+      (λ _. cond-both (f .recovered) (settle g S a b i r′ (f .value)) wait Kept
+      (λ _. settle-fine (Coded m v st) ms i r′ (f .value) e (λ y o. refl))
+      (λ _. taken-fine (Coded m v st) ms (reading p (upd (p .reads) i r′)) e (λ y o. refl) (reading-mild p i r′ (λ z. (z, refl, refl)))))
+      (λ _. dropped))
+      (λ _. dropped)
 
   oldest-fine : (l : List Message) (f : Found) → S .lanes a b ≡ l → ((m : Message) (ms : List Message) → l ≡ m ∷ ms → ((y o : ℕ) → heard y o m ≡ o) ⊎ (fits g m ≡ true)) → Kept (oldest g S a b l f)
   unfolding oldest
@@ -176,12 +172,13 @@ module _ (g : Code) (S : State) (h : Fine g S) (a b : ℕ) (an : a < g .n) (bn :
       let i = open-slot g p m in
       let o = open-found g p m lt in
       every-from (g .k) (λ y. not (has g a y) || (eqb (getD st y 0) (p .reads i .tags y) || (holds (p .history) y (getD st y 0) && holds (p .history) y (p .reads i .tags y)))) (λ y yk.
-        elim (cases-bool (has g a y)) [
-          inl f ↦ or-right (not (has g a y)) _ (⊎-elim
-              (λ q. or-left (eqb (getD st y 0) (p .reads i .tags y)) _ (eq-eqb (getD st y 0) (p .reads i .tags y) q))
-              (λ q. or-right (eqb (getD st y 0) (p .reads i .tags y)) _ (and-from (holds (p .history) y (getD st y 0)) (holds (p .history) y (p .reads i .tags y)) (q .0) (q .1)))
-              (usable (g .n) (g .k) (has g) (core S) h a b m v st ms an bn ne e i (and-from (ltb i slots) (is-open (p .reads i)) lt (o .0)) (o .1) y yk f))
-        | inr f ↦ or-left (not (has g a y)) _ (rw f) ])
+      elim (cases-bool (has g a y)) [
+        | inl f ↦ or-right (not (has g a y)) _ (⊎-elim
+            (λ q. or-left (eqb (getD st y 0) (p .reads i .tags y)) _ (eq-eqb (getD st y 0) (p .reads i .tags y) q))
+            (λ q. or-right (eqb (getD st y 0) (p .reads i .tags y)) _ (and-from (holds (p .history) y (getD st y 0)) (holds (p .history) y (p .reads i .tags y)) (q .0) (q .1)))
+            (usable (g .n) (g .k) (has g) (core S) h a b m v st ms an bn ne e i (and-from (ltb i slots) (is-open (p .reads i)) lt (o .0)) (o .1) y yk f))
+        | inr f ↦ or-left (not (has g a y)) _ (rw f)
+      ])
 
 abbrev Not-six : Turn → Type 0
 Not-six t = t .answer ≡ Outcome 6 → ⊥
@@ -199,7 +196,7 @@ settle-six g S a b i r v =
     let one = turn (Outcome 4) (take-done g S a b (client-answer g p i r v)) in
     let two = turn (Outcome 4) (take-done g S a b (internal-answer g p i r v)) in
     cond-both (ltb i clients) one (unless (check (history-room g S b) 15 0) S two) Not-six (λ _. outcome-ne 4 (λ e. omega arith))
-      (λ _. unless-both Not-six (check (history-room g S b) 15 0) S two (refused-ne _) (λ _. outcome-ne 4 (λ e. omega arith)))
+    (λ _. unless-both Not-six (check (history-room g S b) 15 0) S two (refused-ne _) (λ _. outcome-ne 4 (λ e. omega arith)))
 
 module _ (g : Code) (S : State) (h : Fine g S) (a b : ℕ) (an : a < g .n) (bn : b < g .n) (ne : a ≡ b → ⊥) where
   got-six : (m : Message) (ms : List Message) (f : Found) → S .lanes a b ≡ m ∷ ms → Not-six (got g S a b m f)
@@ -213,7 +210,7 @@ module _ (g : Code) (S : State) (h : Fine g S) (a b : ℕ) (an : a < g .n) (bn :
       let p = S .servers b in
       let c = holds (p .history) x (getD T x 0) in
       unless-both Not-six (check (ltb (length (S .lanes b a)) (g .places)) 17 0) S (turn (Outcome (cond c 1 2)) (question-done g S a b (reply g b p m x T))) (refused-ne _)
-        (λ _. outcome-ne (cond c 1 2) (cond-both c 1 2 (λ z. z ≡ 6 → ⊥) (λ _ z. omega arith) (λ _ z. omega arith)))
+      (λ _. outcome-ne (cond c 1 2) (cond-both c 1 2 (λ z. z ≡ 6 → ⊥) (λ _ z. omega arith) (λ _ z. omega arith)))
   got-six (Plain m v) ms f e =
       let p = S .servers b in
       let i = open-slot g p m in
@@ -226,10 +223,10 @@ module _ (g : Code) (S : State) (h : Fine g S) (a b : ℕ) (an : a < g .n) (bn :
       let useless = turn (Outcome 6) (take-done g S a b p) in
       let wait = turn (Outcome 3) (take-done g S a b (reading p (upd (p .reads) i r′))) in
       cond-both (ltb i slots) (cond (mendable g p a r st) (cond (f .recovered) (settle g S a b i r′ (f .value)) wait) useless) (turn (Outcome 5) (take-done g S a b p)) Not-six
-        (λ lt. cond-both (mendable g p a r st) (cond (f .recovered) (settle g S a b i r′ (f .value)) wait) useless Not-six
-          (λ _. cond-both (f .recovered) (settle g S a b i r′ (f .value)) wait Not-six (λ _. settle-six g S a b i r′ (f .value)) (λ _. outcome-ne 3 (λ z. omega arith)))
-          (λ q. absurd (both-ways (mendable g p a r st) q (mends g S h a b an bn ne m v st ms e lt))))
-        (λ _. outcome-ne 5 (λ z. omega arith))
+      (λ lt. cond-both (mendable g p a r st) (cond (f .recovered) (settle g S a b i r′ (f .value)) wait) useless Not-six
+      (λ _. cond-both (f .recovered) (settle g S a b i r′ (f .value)) wait Not-six (λ _. settle-six g S a b i r′ (f .value)) (λ _. outcome-ne 3 (λ z. omega arith)))
+      (λ q. absurd (both-ways (mendable g p a r st) q (mends g S h a b an bn ne m v st ms e lt))))
+      (λ _. outcome-ne 5 (λ z. omega arith))
 
   oldest-six : (l : List Message) (f : Found) → S .lanes a b ≡ l → Not-six (oldest g S a b l f)
   unfolding oldest

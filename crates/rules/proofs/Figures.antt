@@ -1,13 +1,12 @@
 -- The worked run, by computation.
-use mathlib.Core.Path.{_≡_, refl, sym, ap, _∙_, subst}
-use mathlib.Core.Bool.{Bool, true, false, cond}
-use mathlib.Core.List.{List, [], _∷_, map}
+use mathlib.Core.Path.{_≡_, refl, sym, subst}
+use mathlib.Core.Bool.{false, cond}
+use mathlib.Core.List.{List, [], _∷_}
 use Prim.Native.Nat.{ℕ, zero, suc, _<_}
 use native.Mathlib.Omega.{arith}
 use lib.Dec.{eqb}
 use lib.ListN.{getD, take}
-use Rattle.std.proofs.shelf.Tests.{cond-both, eqb-true, both-ways, cases-eq}
-use mathlib.Core.Logic.{inl, inr}
+use Rattle.std.proofs.shelf.Tests.{cond-both, eqb-true, both-ways}
 use Rattle.message.specs.Meanings.{Meaning, write-notice}
 use Rattle.field.specs.Sums.{sum}
 use Rattle.code.specs.Codings.{Value, symbol}
@@ -15,7 +14,7 @@ use Rattle.code.specs.Recovery.{Recovers}
 use Rattle.rules.specs.Words.{upd, every, some, first-below}
 use Rattle.rules.specs.Lanes.{posted, spread, taken}
 use Rattle.rules.specs.Histories.{has-entry, entered-value, value-under, highest}
-use Rattle.rules.specs.State.{Server, State, new-group}
+use Rattle.rules.specs.State.{Server, new-group}
 use Rattle.rules.specs.Updates.{entered, counted, queued, sifted, reading, hearing, moved, opening, overtaken}
 use Rattle.rules.specs.Writing.{write-done, write-refusal, write, next-ready, apply-done, apply}
 use Rattle.rules.specs.Reading.{open-done, open-read, read-refusal, read-found, read, collect-done, collect}
@@ -44,10 +43,10 @@ not-alone : Recovers (three-by-two .code) (λ j. eqb j 2) 0 → ⊥
 unfolding zeros opposite
 not-alone h =
     let e : zeros 0 ≡ opposite 0 = h zeros opposite
-          (λ x xk. record { long = refl; elements = λ c lt. one-cell 0 c (omega arith) lt })
-          (λ x xk. cond-both (eqb x 0) (1 ∷ []) (250 ∷ []) (Value (three-by-two .code))
-            (λ _. record { long = refl; elements = λ c lt. one-cell 1 c (omega arith) lt }) (λ _. record { long = refl; elements = λ c lt. one-cell 250 c (omega arith) lt }))
-          (λ s sn q. subst (λ k. symbol (three-by-two .code) k zeros ≡ symbol (three-by-two .code) k opposite) (sym (eqb-true s 2 q)) same-symbol) in
+    (λ x xk. record { long = refl; elements = λ c lt. one-cell 0 c (omega arith) lt })
+    (λ x xk. cond-both (eqb x 0) (1 ∷ []) (250 ∷ []) (Value (three-by-two .code))
+    (λ _. record { long = refl; elements = λ c lt. one-cell 1 c (omega arith) lt }) (λ _. record { long = refl; elements = λ c lt. one-cell 250 c (omega arith) lt }))
+    (λ s sn q. subst (λ k. symbol (three-by-two .code) k zeros ≡ symbol (three-by-two .code) k opposite) (sym (eqb-true s 2 q)) same-symbol) in
     let z : _≡_ {A = ℕ} 0 1 = cc in omega arith
 
 tested : (symbols : ℕ → List ℕ) → Tested three-by-two (λ j. eqb j 2) symbols 0 nothing-found
@@ -60,6 +59,7 @@ notice p ms x v h ck m e = let q : write-notice x v h ck ≡ m = cc in subst (λ
 pub small-run : Small-run
 unfolding sum upd every some first-below posted spread taken has-entry entered-value value-under highest entered counted queued sifted reading hearing moved opening overtaken write-done write-refusal write next-ready apply-done apply open-done open-read read-refusal read-found read collect-done collect lowest object-refusal move-done enter-done encode-contained encode-other encode swept sweep-done sweep fits-group fits take-done stated restated question-done settle mended got oldest lane-refusal deliver
 small-run = record {
-    allowed = (tt, ((λ _ _. tested _), ((λ m ms e _ _. notice (run three-by-two (new-group three-by-two) (take 2 five-moves) .servers 2) ms 0 (100 ∷ []) 1 (1 ∷ 0 ∷ 0 ∷ []) m e), (tt, ((λ _ _. tested _), tt)))))
-  ; answers = refl
-  ; symbol-at-2 = refl }
+  allowed = (tt, ((λ _ _. tested _), ((λ m ms e _ _. notice (run three-by-two (new-group three-by-two) (take 2 five-moves) .servers 2) ms 0 (100 ∷ []) 1 (1 ∷ 0 ∷ 0 ∷ []) m e), (tt, ((λ _ _. tested _), tt)))));
+  answers = refl;
+  symbol-at-2 = refl;
+}

@@ -1,32 +1,29 @@
 -- Over each call, the reads that the events tell of stay joined to the places of every server.
 use mathlib.Core.Path.{_≡_, refl, sym, ap, ap₂, _∙_, subst, fun-ext}
 use mathlib.Core.List.{List, [], _∷_, _++_, map, append-nil}
-use mathlib.Core.Bool.{Bool, true, false, cond, _&&_, _||_, not}
+use mathlib.Core.Bool.{Bool, true, false, cond, _&&_, not}
 use mathlib.Core.Logic.{_⊎_, inl, inr, ⊎-elim}
-use Prim.Native.Nat.{ℕ, zero, suc, _+_, _-_, _*_, _/_, _%_, _<_, _≤_, max}
+use Prim.Native.Nat.{ℕ, zero, suc, _+_, _-_, _/_, _<_, _≤_}
 use native.Mathlib.Omega.{arith}
-use lib.Dec.{eqb, ltb, leb}
+use lib.Dec.{eqb, ltb}
 use lib.ListN.{getD, length}
 use Rattle.std.specs.shelf.Lists.{All}
-use Rattle.std.specs.declared.option.Option.{Option}
-use Rattle.std.specs.declared.option.Option.the-variants.{None, Some}
+use Rattle.std.specs.declared.option.Option.the-variants.{Some}
 use Rattle.std.proofs.shelf.Ways.{tells as ways}
-use Rattle.std.proofs.shelf.Tests.{cases-bool, cases-eq, both-ways, and-parts, and-from, and-right, and-left, and-cases, or-cases, or-right, or-from, lt-ltb, ltb-true, ltb-false, eq-eqb, ne-eqb, eqb-true, cond-true, cond-false, cond-both}
+use Rattle.std.proofs.shelf.Tests.{cases-bool, cases-eq, both-ways, and-parts, and-from, and-right, and-left, or-cases, or-right, or-from, lt-ltb, ltb-true, ltb-false, eq-eqb, ne-eqb, eqb-true, cond-true, cond-false, cond-both}
 use Rattle.std.proofs.shelf.Elements.{all-weaker}
-use Rattle.message.specs.Meanings.{Meaning}
 use Rattle.rules.specs.Words.{upd}
-use Rattle.rules.specs.Turns as turns
 use Rattle.rules.specs.Turns.{Call, Write, Read as Ask, Collect, Deliver, Apply, Encode, Sweep, Found}
 use Rattle.rules.specs.Events as told
-use Rattle.rules.specs.Events.{Event, Followed, just-opened, follow-all, follow-call, follow-write, follow-deliver, opened-by, opened-read, reads-of, replies-to, first-of}
+use Rattle.rules.specs.Events.{Event, Followed, just-opened, follow-all, follow-write, opened-by, opened-read, reads-of, replies-to, first-of}
 use Rattle.rules.proofs.RankedMessages.{Message, Written, Tagged, Question, Plain, Coded, tag}
 use Rattle.rules.proofs.Unranked.{tag-at, message-at}
-use Rattle.rules.proofs.RankedWords.{Lanes, spread, listed, seek}
+use Rattle.rules.proofs.RankedWords.{Lanes, seek}
 use Rattle.rules.proofs.Ranked.{Code, layout-of, Entry, Waiting, Read, Server, State, holds, enters, same-entry, kept, top-tag, is-open, no-read, clients, slots, queue, most-reads}
 use Rattle.rules.proofs.RankedSteps as Steps
-use Rattle.rules.proofs.RankedSteps.{Answer, Refused, Tag, Value, Number, Still, Nothing, Outcome, Count, Turn, turn, Picked, check, unless, write-refusal, write-tag, write-done, apply-done, wait-tag, picked, open-refusal, free-slot, open-done, opening, new-read, collect-done, sweep-done, move-done, enter-done, moved, sifted, entered, counted, queued, reading, overtaken, take-done, question-done, reply, settle, client-answer, internal-answer, history-room, answered, in-hand, open-slot, mendable, mended, got, oldest, deliver, lane-refusal, fits, step, tag-fits, room}
-use Rattle.rules.proofs.RankedLaw as law
-use Rattle.rules.proofs.RankedLaw.{best, Lawful}
+use Rattle.rules.proofs.RankedSteps.{Answer, Refused, Tag, Value, Number, Still, Nothing, Outcome, Count, Turn, turn, Picked, check, unless, write-refusal, write-tag, write-done, apply-done, picked, open-refusal, free-slot, open-done, opening, new-read, collect-done, sweep-done, move-done, enter-done, moved, sifted, entered, counted, queued, reading, overtaken, take-done, question-done, reply, settle, client-answer, internal-answer, history-room, answered, in-hand, open-slot, mendable, mended, got, oldest, deliver, lane-refusal, fits, step, tag-fits}
+use Rattle.rules.proofs.RankedFacts as law
+use Rattle.rules.proofs.RankedFacts.{best, Lawful}
 use Rattle.rules.proofs.Words.{upd-same, upd-other, seek-found, enters-push}
 use Rattle.rules.proofs.Calls.{unless-both, checked}
 use Rattle.rules.proofs.Deliver.{lane-ends, open-found, mends}
@@ -43,7 +40,7 @@ use Rattle.rules.proofs.Fitting.{plain-fits, coded-fits}
 use Rattle.rules.proofs.View.{state-at, answer-at}
 use Rattle.rules.proofs.Told.{Tells, tells-push}
 use Rattle.rules.proofs.Heights.{Heights, Proper}
-use Rattle.rules.proofs.Following.{all-same, at, live, Linked, Answers, Follows, Moves, stays, gone, Idle, follows-change, follows-open}
+use Rattle.rules.proofs.Following.{all-same, at, live, Follows, stays, follows-change, follows-open}
 use Rattle.rules.proofs.Overtaking.{relink, best-less, overtake-follows}
 use Rattle.rules.proofs.Replying.{none-follows, hand-follows, internal-follows, client-follows}
 
@@ -52,13 +49,15 @@ seek-none : (n : ℕ) (f : ℕ → Bool) → ltb (seek n f) n ≡ false → (i :
 unfolding seek
 seek-none zero f e i lt = absurd (omega arith)
 seek-none (suc n) f e i lt = elim (cases-bool (ltb (seek n f) n)) [
-    inl q ↦ absurd (let z : ltb (seek n f) (suc n) ≡ false = rw q at e in let a = ltb-true (seek n f) n q in let b = ltb-false (seek n f) (suc n) z in omega arith)
+  | inl q ↦ absurd (let z : ltb (seek n f) (suc n) ≡ false = rw q at e in let a = ltb-true (seek n f) n q in let b = ltb-false (seek n f) (suc n) z in omega arith)
   | inr q ↦ elim (cases-bool (f n)) [
-      inl w ↦ absurd (let z : ltb n (suc n) ≡ false = rw (q, w) at e in let b = ltb-false n (suc n) z in omega arith)
-    | inr w ↦ elim (cases-eq i n) [ inl z ↦ rw z w | inr ne ↦ seek-none n f q i (omega arith) ] ] ]
+    | inl w ↦ absurd (let z : ltb n (suc n) ≡ false = rw (q, w) at e in let b = ltb-false n (suc n) z in omega arith)
+    | inr w ↦ elim (cases-eq i n) [ inl z ↦ rw z w | inr ne ↦ seek-none n f q i (omega arith) ]
+  ]
+]
 
 module _ (g : Code) (R : Lawful g) (es : List Event) (L : List Entry) (A : ℕ → List ℕ) (S : State) (tells : Tells es L A) (known : Known g R L A S)
-         (heights : Heights A S) (proper : Proper g L) (follows : (k : ℕ) → k < g .n → Follows k (reads-of (layout-of g) k es) (S .servers k .reads) (S .servers k .opened)) where
+    (heights : Heights A S) (proper : Proper g L) (follows : (k : ℕ) → k < g .n → Follows k (reads-of (layout-of g) k es) (S .servers k .reads) (S .servers k .opened)) where
   abbrev F : ℕ → List Followed
   F k = reads-of (layout-of g) k es
 
@@ -79,8 +78,9 @@ module _ (g : Code) (R : Lawful g) (es : List Event) (L : List Entry) (A : ℕ �
   put-on : (c : Call) (a : Answer) (s : ℕ) (r : Server) (Ln : Lanes) → (s < g .n → Follows s (newF c a s) (r .reads) (r .opened)) → ((k : ℕ) → (k ≡ s → ⊥) → newF c a k ≡ F k)
       → Followed-on c (turn a (record { servers = upd (S .servers) s r; lanes = Ln }))
   put-on c a s r Ln here else k kn = elim (cases-eq k s) [
-      inl e ↦ rw (e, upd-same (S .servers) s r) (here (rw e at kn))
-    | inr ne ↦ rw (upd-other (S .servers) s k r ne) (subst (λ l. Follows k l (S .servers k .reads) (S .servers k .opened)) (sym (else k ne)) (follows k kn)) ]
+    | inl e ↦ rw (e, upd-same (S .servers) s r) (here (rw e at kn))
+    | inr ne ↦ rw (upd-other (S .servers) s k r ne) (subst (λ l. Follows k l (S .servers k .reads) (S .servers k .opened)) (sym (else k ne)) (follows k kn))
+  ]
 
   -- ---- calls that do not close reads
   ask-none : (s x l : ℕ) (a : Answer) → opened-read (answer-at a) ≡ false → (k : ℕ) → newF (Ask s x l) a k ≡ F k
@@ -126,7 +126,7 @@ module _ (g : Code) (R : Lawful g) (es : List Event) (L : List Entry) (A : ℕ �
   unfolding open-done opening
   open-on c a s i x client e else dead place more kind = put-on c a s _ (S .lanes)
       (λ sn. subst (λ l. Follows s l (upd (S .servers s .reads) i (new-read (S .servers s) s x)) (S .servers s .opened + 1)) (sym e)
-        (follows-open s (F s) (S .servers s .reads) (S .servers s .opened) i x client (new-read (S .servers s) s x) (follows s sn) dead place (ltb-true (S .servers s .opened) most-reads more) kind refl refl refl (λ j. refl))) else
+      (follows-open s (F s) (S .servers s .reads) (S .servers s .opened) i x client (new-read (S .servers s) s x) (follows s sn) dead place (ltb-true (S .servers s .opened) most-reads more) kind refl refl refl (λ j. refl))) else
 
   value-on : (s x l : ℕ) (v : List ℕ) (t w : ℕ) → Followed-on (Ask s x l) (turn (Value v t w) S)
   value-on s x l v t w = same-on (Ask s x l) (Value v t w) (ask-none s x l (Value v t w) refl)
@@ -135,11 +135,11 @@ module _ (g : Code) (R : Lawful g) (es : List Event) (L : List Entry) (A : ℕ �
   read-on s x l f = read-cases g S (Followed-on (Ask s x l)) (λ r. same-on (Ask s x l) (Refused r) (ask-none s x l (Refused r) refl)) s x l f
       (λ _ _ _. value-on s x l (kept g (S .servers s .history) x (top-tag x (S .servers s .history))) (top-tag x (S .servers s .history)) 1) (λ _ _ _ _. value-on s x l (f .value) (S .servers s .own x) 2)
       (λ sn xk lt rec free.
-        let w = free-found s free in
-        let i = free-slot g (S .servers s) in
-        open-on (Ask s x l) (Number (S .servers s .opened + 1)) s i x true
-          (ap₂ _++_ (all-same (layout-of g) s 1 es (ev (Ask s x l) (Number (S .servers s .opened + 1))) (F s) (λ n r. refl)) (cond-true (eqb s s && true) _ _ (and-from (eqb s s) true (eq-eqb s s refl) refl)))
-          (ask-else s x l (Number (S .servers s .opened + 1))) (free-dead s (w .1)) (let z = ltb-true i clients (w .1) in omega arith) (w .0) (sym (w .1)))
+      let w = free-found s free in
+      let i = free-slot g (S .servers s) in
+      open-on (Ask s x l) (Number (S .servers s .opened + 1)) s i x true
+      (ap₂ _++_ (all-same (layout-of g) s 1 es (ev (Ask s x l) (Number (S .servers s .opened + 1))) (F s) (λ n r. refl)) (cond-true (eqb s s && true) _ _ (and-from (eqb s s) true (eq-eqb s s refl) refl)))
+      (ask-else s x l (Number (S .servers s .opened + 1))) (free-dead s (w .1)) (let z = ltb-true i clients (w .1) in omega arith) (w .0) (sym (w .1)))
 
   -- ---- collect
   freed : (s i : ℕ) → s < g .n → is-open (S .servers s .reads i) ≡ false → Follows s (F s) (upd (S .servers s .reads) i no-read) (S .servers s .opened)
@@ -147,11 +147,11 @@ module _ (g : Code) (R : Lawful g) (es : List Event) (L : List Entry) (A : ℕ �
       let rs = S .servers s .reads in
       let h = follows s sn in
       follows-change s (F s) (F s) rs (upd rs i no-read) (S .servers s .opened) h refl (λ k lt q. refl)
-        (λ j dead. elim (cases-eq j i) [ inl q ↦ inr (ap (upd rs i no-read) q ∙ upd-same rs i no-read) | inr ne ↦ inl (upd-other rs i j no-read ne) ])
-        (λ j lv. let ne : j ≡ i → ⊥ = (λ q. both-ways (is-open (rs i)) shut (subst (λ k. is-open (rs k) ≡ true) q (and-parts (ltb j slots) (is-open (rs j)) lv .1))) in
-          let there = upd-other rs i j no-read ne in
-          let k = h .links j lv in
-          stays (ap (λ (r : Read). ltb j slots && is-open r) there ∙ lv) (ap (λ (r : Read). r .number) there ∙ k .number) (relink s (F s) (F s) (rs j) (upd rs i no-read j) j k refl refl there))
+      (λ j dead. elim (cases-eq j i) [ inl q ↦ inr (ap (upd rs i no-read) q ∙ upd-same rs i no-read) | inr ne ↦ inl (upd-other rs i j no-read ne) ])
+      (λ j lv. let ne : j ≡ i → ⊥ = (λ q. both-ways (is-open (rs i)) shut (subst (λ k. is-open (rs k) ≡ true) q (and-parts (ltb j slots) (is-open (rs j)) lv .1))) in
+      let there = upd-other rs i j no-read ne in
+      let k = h .links j lv in
+      stays (ap (λ (r : Read). ltb j slots && is-open r) there ∙ lv) (ap (λ (r : Read). r .number) there ∙ k .number) (relink s (F s) (F s) (rs j) (upd rs i no-read j) j k refl refl there))
 
   collected-on : (s m l : ℕ) (a : Answer) (i : ℕ) → is-open (S .servers s .reads i) ≡ false → Followed-on (Collect s m l) (turn a (collect-done g S s i))
   unfolding collect-done reading
@@ -176,8 +176,8 @@ module _ (g : Code) (R : Lawful g) (es : List Event) (L : List Entry) (A : ℕ �
       (λ o ne. same-on (Encode s x) (Outcome o) (encode-none s x (Outcome o) (ne-eqb o 4 ne)))
       (λ t v _ _ _ _. moved-on s x t v) (λ _ _ _. entered-on s x _)
       (λ sn xk _ _ shut more. open-on (Encode s x) (Outcome 4) s (clients + x) x false
-          (ap₂ _++_ (all-same (layout-of g) s 1 es (ev (Encode s x) (Outcome 4)) (F s) (λ n r. refl)) (cond-true (eqb s s && true) _ _ (and-from (eqb s s) true (eq-eqb s s refl) refl)))
-          (encode-else s x (Outcome 4)) (and-right (ltb (clients + x) slots) _ shut) (let z = R .few-objects in omega arith) more (sym (not-client x)))
+      (ap₂ _++_ (all-same (layout-of g) s 1 es (ev (Encode s x) (Outcome 4)) (F s) (λ n r. refl)) (cond-true (eqb s s && true) _ _ (and-from (eqb s s) true (eq-eqb s s refl) refl)))
+      (encode-else s x (Outcome 4)) (and-right (ltb (clients + x) slots) _ shut) (let z = R .few-objects in omega arith) more (sym (not-client x)))
     where
       not-client : (x : ℕ) → ltb (clients + x) clients ≡ false
       not-client x = grind (arith, ways)
@@ -227,15 +227,16 @@ module _ (g : Code) (R : Lawful g) (es : List Event) (L : List Entry) (A : ℕ �
     written-follows : Follows s (newF (Write s x v) (Tag t) s) (overtaken (S .servers s .reads) true x t v) (S .servers s .opened)
     written-follows = subst (λ z. Follows s z (overtaken (S .servers s .reads) true x t v) (S .servers s .opened)) (sym (append-nil _))
         (overtake-follows g es (ev (Write s x v) (Tag t)) L (L ++ e ∷ []) A (λ k. A k ++ cond (eqb s k) (t ∷ []) []) tells (tells-push es L A tells (ev (Write s x v) (Tag t)) (Write s x v) (Tag t) refl refl)
-          s (F s) (S .servers s .reads) (S .servers s .opened) (follows s sn) x t v true (λ n r. refl)
-          (cond-true (eqb s s) (tag-at t ∷ []) [] (eq-eqb s s refl))
-          (λ y q. elim (cases-eq x y) [
-              inl z ↦ sym z
-            | inr ne ↦ absurd (both-ways (enters (L ++ e ∷ []) y t) (enters-push L e y t ∙ or-from (enters L y t) (same-entry y t e) (new-for y) (and-left (eqb x y) (eqb t t) (ne-eqb x y ne))) q) ])
-          (λ _. is-in) (λ i ic lv q. sym (lt-ltb (best L x (A s)) t (best-less L x t (A s) (omega arith) all-lower)))
-          (λ _. ap (best (L ++ e ∷ []) x) (ap (λ b. A s ++ cond b (t ∷ []) []) (eq-eqb s s refl)) ∙ best-push (L ++ e ∷ []) x (A s) t ∙ cond-true (enters (L ++ e ∷ []) x t) _ _ is-in
-            ∙ (let z = best-less (L ++ e ∷ []) x t (A s) (omega arith) all-lower in omega arith))
-          (kept-new g L e (omega arith) (new-for x)))
+        s (F s) (S .servers s .reads) (S .servers s .opened) (follows s sn) x t v true (λ n r. refl)
+        (cond-true (eqb s s) (tag-at t ∷ []) [] (eq-eqb s s refl))
+        (λ y q. elim (cases-eq x y) [
+          | inl z ↦ sym z
+          | inr ne ↦ absurd (both-ways (enters (L ++ e ∷ []) y t) (enters-push L e y t ∙ or-from (enters L y t) (same-entry y t e) (new-for y) (and-left (eqb x y) (eqb t t) (ne-eqb x y ne))) q)
+        ])
+        (λ _. is-in) (λ i ic lv q. sym (lt-ltb (best L x (A s)) t (best-less L x t (A s) (omega arith) all-lower)))
+        (λ _. ap (best (L ++ e ∷ []) x) (ap (λ b. A s ++ cond b (t ∷ []) []) (eq-eqb s s refl)) ∙ best-push (L ++ e ∷ []) x (A s) t ∙ cond-true (enters (L ++ e ∷ []) x t) _ _ is-in
+        ∙ (let z = best-less (L ++ e ∷ []) x t (A s) (omega arith) all-lower in omega arith))
+        (kept-new g L e (omega arith) (new-for x)))
 
     write-done-on : Followed-on (Write s x v) (turn (Tag t) (write-done g S s x v))
     unfolding write-done reading entered counted
@@ -263,14 +264,14 @@ module _ (g : Code) (R : Lawful g) (es : List Event) (L : List Entry) (A : ℕ �
     applied-follows : Follows s (newF (Apply s) (Tag u) s) (overtaken (S .servers s .reads) false (w .object) u (w .value)) (S .servers s .opened)
     applied-follows = subst (λ z. Follows s z (overtaken (S .servers s .reads) false (w .object) u (w .value)) (S .servers s .opened)) (sym (append-nil _))
         (overtake-follows g es (ev (Apply s) (Tag u)) L L A (λ k. A k ++ cond (eqb s k) (u ∷ []) []) tells after
-          s (F s) (S .servers s .reads) (S .servers s .opened) (follows s sn) (w .object) u (w .value) false (λ n r. refl)
-          (cond-true (eqb s s) (tag-at u ∷ []) [] (eq-eqb s s refl))
-          (λ y q. known .unique y (w .object) u q (entered-if (all-entered (λ z. 0 < z) L y u (all-weaker _ (λ d. 0 < d .tag) (λ d z. z .1) L proper) q)))
-          (λ low. entered-if (let z = ltb-true (best L (w .object) (A s)) u low in omega arith))
-          (λ i ic lv q. ap (λ z. ltb z u) (sym (subst (λ y. best L y (A s) ≡ S .servers s .reads i .tags y) q (known .peaks .asked s i sn ic lv))))
-          (λ low. ap (best L (w .object)) (ap (λ c. A s ++ cond c (u ∷ []) []) (eq-eqb s s refl)) ∙ best-push L (w .object) (A s) u
-            ∙ (let z = ltb-true (best L (w .object) (A s)) u low in cond-true (enters L (w .object) u) _ _ (entered-if (omega arith)) ∙ (omega arith)))
-          (sym (of .1)))
+        s (F s) (S .servers s .reads) (S .servers s .opened) (follows s sn) (w .object) u (w .value) false (λ n r. refl)
+        (cond-true (eqb s s) (tag-at u ∷ []) [] (eq-eqb s s refl))
+        (λ y q. known .unique y (w .object) u q (entered-if (all-entered (λ z. 0 < z) L y u (all-weaker _ (λ d. 0 < d .tag) (λ d z. z .1) L proper) q)))
+        (λ low. entered-if (let z = ltb-true (best L (w .object) (A s)) u low in omega arith))
+        (λ i ic lv q. ap (λ z. ltb z u) (sym (subst (λ y. best L y (A s) ≡ S .servers s .reads i .tags y) q (known .peaks .asked s i sn ic lv))))
+        (λ low. ap (best L (w .object)) (ap (λ c. A s ++ cond c (u ∷ []) []) (eq-eqb s s refl)) ∙ best-push L (w .object) (A s) u
+        ∙ (let z = ltb-true (best L (w .object) (A s)) u low in cond-true (enters L (w .object) u) _ _ (entered-if (omega arith)) ∙ (omega arith)))
+        (sym (of .1)))
 
     apply-done-on : Followed-on (Apply s) (turn (Tag u) (apply-done g S s (b .write) (b .others)))
     unfolding apply-done reading entered counted queued
@@ -303,7 +304,7 @@ module _ (g : Code) (R : Lawful g) (es : List Event) (L : List Entry) (A : ℕ �
     quiet-none : (z : Message) (ms : List Message) → S .lanes a b ≡ z ∷ ms → ((n : ℕ) → replies-to n (Some (message-at z)) ≡ false) → (w : Answer) (k : ℕ) → newF D w k ≡ F k
     quiet-none z ms q silent w k = ap (λ z. z ++ []) (all-same (layout-of g) k 1 es (ev D w) (F k) (λ n r.
         cond-false (eqb b k && (replies-to n (ev D w .oldest) && (r .is-open && not (told.is-refused (answer-at w))))) _ _
-          (and-right (eqb b k) _ (and-left (replies-to n (ev D w .oldest)) _ (ap (λ l. replies-to n (first-of (map message-at l))) q ∙ silent n))))) ∙ append-nil (F k)
+        (and-right (eqb b k) _ (and-left (replies-to n (ev D w .oldest)) _ (ap (λ l. replies-to n (first-of (map message-at l))) q ∙ silent n))))) ∙ append-nil (F k)
 
     take-on : (w : Answer) (r : Server) → Follows b (newF D w b) (r .reads) (r .opened) → Followed-on D (turn w (take-done g S a b r))
     unfolding take-done
@@ -325,8 +326,8 @@ module _ (g : Code) (R : Lawful g) (es : List Event) (L : List Entry) (A : ℕ �
       none-on : (o : ℕ) → ltb (open-slot g (S .servers b) m) slots ≡ false → Followed-on D (turn (Outcome o) (take-done g S a b (S .servers b)))
       none-on o absent = take-on (Outcome o) (S .servers b) (subst (λ l. Follows b l rs (S .servers b .opened)) (sym (append-nil _))
           (none-follows g es (ev D (Outcome o)) a b m (F b) rs (S .servers b .opened) (follows b bn) (λ n r. refl) replies refl (λ i lv q.
-            both-ways (is-open (rs i) && eqb (rs i .number) m) (seek-none slots (λ i. is-open (rs i) && eqb (rs i .number) m) absent i (ltb-true i slots (and-parts (ltb i slots) (is-open (rs i)) lv .0)))
-              (and-from (is-open (rs i)) (eqb (rs i .number) m) (and-parts (ltb i slots) (is-open (rs i)) lv .1) (eq-eqb (rs i .number) m q)))))
+          both-ways (is-open (rs i) && eqb (rs i .number) m) (seek-none slots (λ i. is-open (rs i) && eqb (rs i .number) m) absent i (ltb-true i slots (and-parts (ltb i slots) (is-open (rs i)) lv .0)))
+          (and-from (is-open (rs i)) (eqb (rs i .number) m) (and-parts (ltb i slots) (is-open (rs i)) lv .1) (eq-eqb (rs i .number) m q)))))
 
       module _ (found : ltb (open-slot g (S .servers b) m) slots ≡ true) where
         abbrev i : ℕ
@@ -358,12 +359,12 @@ module _ (g : Code) (R : Lawful g) (es : List Event) (L : List Entry) (A : ℕ �
             let one = turn (Outcome 4) (take-done g S a b (client-answer g p i r v)) in
             let two = turn (Outcome 4) (take-done g S a b (internal-answer g p i r v)) in
             cond-both (ltb i clients) one (unless (check (history-room g S b) 15 0) S two) (Followed-on D)
-              (λ ic. take-on (Outcome 4) (client-answer g p i r v) (subst (λ l. Follows b l (upd rs i (answered r v (r .tags (r .object)) 3)) (p .opened)) (sym (append-nil _))
-                (client-follows g es (ev D (Outcome 4)) a b m (F b) rs (p .opened) (follows b bn) (λ n r. refl) replies refl i lv number L A (after-deliver (Outcome 4)) v (ltb-true i clients ic) refl
-                  (known .peaks .asked b i bn (ltb-true i clients ic) lv) right hd sy)))
-              (λ _. unless-both (Followed-on D) (check (history-room g S b) 15 0) S two (refused-on (check (history-room g S b) 15 0)) (λ _.
-                take-on (Outcome 4) (internal-answer g p i r v) (subst (λ l. Follows b l (upd rs i no-read) (p .opened)) (sym (append-nil _))
-                  (internal-follows g es (ev D (Outcome 4)) a b m (F b) rs (p .opened) (follows b bn) (λ n r. refl) replies refl i lv number refl))))
+            (λ ic. take-on (Outcome 4) (client-answer g p i r v) (subst (λ l. Follows b l (upd rs i (answered r v (r .tags (r .object)) 3)) (p .opened)) (sym (append-nil _))
+            (client-follows g es (ev D (Outcome 4)) a b m (F b) rs (p .opened) (follows b bn) (λ n r. refl) replies refl i lv number L A (after-deliver (Outcome 4)) v (ltb-true i clients ic) refl
+            (known .peaks .asked b i bn (ltb-true i clients ic) lv) right hd sy)))
+            (λ _. unless-both (Followed-on D) (check (history-room g S b) 15 0) S two (refused-on (check (history-room g S b) 15 0)) (λ _.
+            take-on (Outcome 4) (internal-answer g p i r v) (subst (λ l. Follows b l (upd rs i no-read) (p .opened)) (sym (append-nil _))
+            (internal-follows g es (ev D (Outcome 4)) a b m (F b) rs (p .opened) (follows b bn) (λ n r. refl) replies refl i lv number refl))))
 
     plain-replies : (m : ℕ) (v : List ℕ) (ms : List Message) → S .lanes a b ≡ Plain m v ∷ ms → (n : ℕ) → replies-to n (told.oldest-of (state-at S) (Deliver a b)) ≡ eqb m n
     plain-replies m v ms q n = ap (λ l. replies-to n (first-of (map message-at l))) q
@@ -380,7 +381,7 @@ module _ (g : Code) (R : Lawful g) (es : List Event) (L : List Entry) (A : ℕ �
         let r = rs (open-slot g (S .servers b) m) in
         let right = plain-value m v ms q found in
         plain-fits g R m v (w .0) (w .1) (ap length right ∙ known .told .cells .long (r .object) (r .tags (r .object)))
-          (λ c lt. subst (λ z. getD z c 0 < g .q) (sym right) (known .told .cells .below (r .object) (r .tags (r .object)) c lt))
+        (λ c lt. subst (λ z. getD z c 0 < g .q) (sym right) (known .told .cells .below (r .object) (r .tags (r .object)) c lt))
 
     stated-fits : (y t : ℕ) → Of-tag g R L y t → tag-fits g t ≡ true
     stated-fits y t h = ⊎-elim (λ q. subst (λ z. tag-fits g z ≡ true) (sym (eqb-true t 0 q)) zero-fits)
@@ -402,19 +403,19 @@ module _ (g : Code) (R : Lawful g) (es : List Event) (L : List Entry) (A : ℕ �
         let p = S .servers b in
         let r = queued p (p .waiting ++ record { object = x; tag = tag h a; value = v; clock = ck } ∷ []) in
         unless-both (Followed-on D) (check (ltb (length (p .waiting)) queue) 18 0) S (turn (Outcome 0) (take-done g S a b r)) (refused-on (check (ltb (length (p .waiting)) queue) 18 0))
-          (λ _. take-quiet (Outcome 0) r (unfold queued in refl) (unfold queued in refl) (quiet-none (Written x v h ck) ms q (λ n. refl) (Outcome 0) b))
+        (λ _. take-quiet (Outcome 0) r (unfold queued in refl) (unfold queued in refl) (quiet-none (Written x v h ck) ms q (λ n. refl) (Outcome 0) b))
     got-on (Tagged x t) ms f q ok = take-quiet (Outcome 0) (Steps.tells (S .servers b) x a t) (unfold Steps.tells in refl) (unfold Steps.tells in refl) (quiet-none (Tagged x t) ms q (λ n. refl) (Outcome 0) b)
     got-on (Question m x T) ms f q ok =
         let p = S .servers b in
         let o = cond (holds (p .history) x (getD T x 0)) 1 2 in
         unless-both (Followed-on D) (check (ltb (length (S .lanes b a)) (g .places)) 17 0) S (turn (Outcome o) (question-done g S a b (reply g b p m x T))) (refused-on (check (ltb (length (S .lanes b a)) (g .places)) 17 0))
-          (λ _. question-on o (reply g b p m x T) (quiet-none (Question m x T) ms q (λ n. refl) (Outcome o)))
+        (λ _. question-on o (reply g b p m x T) (quiet-none (Question m x T) ms q (λ n. refl) (Outcome o)))
     got-on (Plain m v) ms f q ok =
         let p = S .servers b in
         let i = open-slot g p m in
         cond-both (ltb i slots) (settle g S a b i (p .reads i) v) (turn (Outcome 5) (take-done g S a b p)) (Followed-on D)
-          (λ found. settle-on m (plain-replies m v ms q) found (p .reads i .hand) (p .reads i .symbols) v (plain-value m v ms q found))
-          (λ absent. none-on m (plain-replies m v ms q) 5 absent)
+        (λ found. settle-on m (plain-replies m v ms q) found (p .reads i .hand) (p .reads i .symbols) v (plain-value m v ms q found))
+        (λ absent. none-on m (plain-replies m v ms q) 5 absent)
     got-on (Coded m v st) ms f q ok =
         let p = S .servers b in
         let i = open-slot g p m in
@@ -424,13 +425,13 @@ module _ (g : Code) (R : Lawful g) (es : List Event) (L : List Entry) (A : ℕ �
         let useless = turn (Outcome 6) (take-done g S a b p) in
         let wait = turn (Outcome 3) (take-done g S a b (reading p (upd (p .reads) i r′))) in
         cond-both (ltb i slots) (cond (mendable g p a r st) (cond (f .recovered) (settle g S a b i r′ (f .value)) wait) useless) (turn (Outcome 5) (take-done g S a b p)) (Followed-on D)
-          (λ found. cond-both (mendable g p a r st) (cond (f .recovered) (settle g S a b i r′ (f .value)) wait) useless (Followed-on D)
-            (λ _. cond-both (f .recovered) (settle g S a b i r′ (f .value)) wait (Followed-on D)
-              (λ rec. settle-on m (coded-replies m v st ms q) found (r′ .hand) (r′ .symbols) (f .value)
-                (coded-right g R L (known .told .cells) S (known .told .stands .fine) (known .told .sourced) (known .told .valued) a b an bn ne m v st ms f q ok found rec))
-              (λ _. hand-on m (coded-replies m v st ms q) found w))
-            (λ lost. absurd (both-ways (mendable g p a r st) lost (mends g S (known .told .stands .fine) a b an bn ne m v st ms q found))))
-          (λ absent. none-on m (coded-replies m v st ms q) 5 absent)
+        (λ found. cond-both (mendable g p a r st) (cond (f .recovered) (settle g S a b i r′ (f .value)) wait) useless (Followed-on D)
+        (λ _. cond-both (f .recovered) (settle g S a b i r′ (f .value)) wait (Followed-on D)
+        (λ rec. settle-on m (coded-replies m v st ms q) found (r′ .hand) (r′ .symbols) (f .value)
+        (coded-right g R L (known .told .cells) S (known .told .stands .fine) (known .told .sourced) (known .told .valued) a b an bn ne m v st ms f q ok found rec))
+        (λ _. hand-on m (coded-replies m v st ms q) found w))
+        (λ lost. absurd (both-ways (mendable g p a r st) lost (mends g S (known .told .stands .fine) a b an bn ne m v st ms q found))))
+        (λ absent. none-on m (coded-replies m v st ms q) 5 absent)
 
     -- what does not fit is no reply to an open read
     unfit-on : (z : Message) (ms : List Message) → S .lanes a b ≡ z ∷ ms → fits g z ≡ false → Followed-on D (turn (Outcome 7) (take-done g S a b (S .servers b)))
@@ -438,11 +439,13 @@ module _ (g : Code) (R : Lawful g) (es : List Event) (L : List Entry) (A : ℕ �
     unfit-on (Tagged x t) ms q bad = take-quiet (Outcome 7) (S .servers b) refl refl (quiet-none (Tagged x t) ms q (λ n. refl) (Outcome 7) b)
     unfit-on (Question m x T) ms q bad = take-quiet (Outcome 7) (S .servers b) refl refl (quiet-none (Question m x T) ms q (λ n. refl) (Outcome 7) b)
     unfit-on (Plain m v) ms q bad = elim (cases-bool (ltb (open-slot g (S .servers b) m) slots)) [
-        inl found ↦ absurd (both-ways (fits g (Plain m v)) bad (plain-fit m v ms q found))
-      | inr absent ↦ none-on m (plain-replies m v ms q) 7 absent ]
+      | inl found ↦ absurd (both-ways (fits g (Plain m v)) bad (plain-fit m v ms q found))
+      | inr absent ↦ none-on m (plain-replies m v ms q) 7 absent
+    ]
     unfit-on (Coded m v st) ms q bad = elim (cases-bool (ltb (open-slot g (S .servers b) m) slots)) [
-        inl found ↦ absurd (both-ways (fits g (Coded m v st)) bad (coded-fit m v st ms q found))
-      | inr absent ↦ none-on m (coded-replies m v st ms q) 7 absent ]
+      | inl found ↦ absurd (both-ways (fits g (Coded m v st)) bad (coded-fit m v st ms q found))
+      | inr absent ↦ none-on m (coded-replies m v st ms q) 7 absent
+    ]
 
     oldest-on : (l : List Message) (f : Found) → S .lanes a b ≡ l → ((m : Message) (ms : List Message) → l ≡ m ∷ ms → law.Allowed-message g S a b m f) → Followed-on D (oldest g S a b l f)
     unfolding oldest

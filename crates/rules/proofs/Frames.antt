@@ -1,24 +1,23 @@
 -- The parts of a step as changes of the core.
-use mathlib.Core.Path.{_≡_, refl, sym, ap, _∙_, subst}
+use mathlib.Core.Path.{_≡_, refl, sym, ap, _∙_}
 use mathlib.Core.List.{List, [], _∷_, _++_}
-use mathlib.Core.Bool.{Bool, true, false, cond, _&&_, _||_, not}
-use mathlib.Core.Logic.{_⊎_, inl, inr, ⊎-elim}
-use Prim.Native.Nat.{ℕ, zero, suc, _+_, _<_, _≤_, min, max}
+use mathlib.Core.Bool.{true, _&&_, not}
+use mathlib.Core.Logic.{_⊎_, inl, inr}
+use Prim.Native.Nat.{ℕ, _+_, _<_, _≤_}
 use native.Mathlib.Omega.{arith}
-use lib.Dec.{eqb, ltb, leb}
-use lib.ListN.{getD, length, drop}
-use Rattle.std.specs.shelf.Lists.{kept-by}
+use lib.Dec.{eqb, ltb}
+use lib.ListN.{drop}
 use Rattle.std.proofs.shelf.Ways.{tells}
-use Rattle.std.proofs.shelf.Tests.{both-ways, cases-bool, cases-eq, cases-order, cases-lt, eq-eqb, ne-eqb, eqb-true, eqb-false, ltb-true, ltb-false, leb-true, leb-false, lt-ltb, and-parts, and-from, and-cases, or-cases, or-parts, or-left, or-right, not-true, not-false, cond-both, cond-true, cond-false}
-use Rattle.rules.proofs.RankedMessages.{Message, Written, Tagged, Question, Plain, Coded, tag}
-use Rattle.rules.proofs.RankedWords.{upd, listed, every, some, seek, lowest, Lanes, posted, spread, taken, free}
-use Rattle.rules.proofs.Core.{Core, heard, Good, Sound}
-use Rattle.rules.proofs.Ranked.{Code, Entry, Waiting, Read, Server, State, has, holds, enters, same-entry, is-open, core, slots, clients, no-read, fresh}
-use Rattle.rules.proofs.Words.{upd-same, upd-other, upd-keeps, upd-each, holds-push}
+use Rattle.std.proofs.shelf.Tests.{eq-eqb, ne-eqb, eqb-true, lt-ltb, and-parts, and-from, cond-both}
+use Rattle.rules.proofs.RankedMessages.{Message}
+use Rattle.rules.proofs.RankedWords.{upd, Lanes, posted, spread, taken}
+use Rattle.rules.proofs.Core.{heard, Good, Sound}
+use Rattle.rules.proofs.Ranked.{Code, Read, Server, State, has, holds, is-open, core, slots}
+use Rattle.rules.proofs.Words.{upd-each}
 use Rattle.rules.proofs.Alter
 use Rattle.rules.proofs.Alter.{Alter, was, new, alter-keeps}
-use Rattle.rules.proofs.Take.{Take, take-keeps}
-use Rattle.rules.proofs.Post.{Post, post-keeps}
+use Rattle.rules.proofs.Take.{take-keeps}
+use Rattle.rules.proofs.Post.{post-keeps}
 
 -- of a server before and after: a place for reads has what it had, or nothing open, or a new read
 pub data Slot (p r : Server) (i : ℕ) : Type 0 where
@@ -42,8 +41,13 @@ slot-read S R s i lt (fresh-read l m q) = new l m (λ y. let e : R .servers s .r
 
 pub mild-alter : (S R : State) → ((s : ℕ) → Mild (S .servers s) (R .servers s)) → ((a b : ℕ) → R .lanes a b ≡ S .lanes a b) → Alter (core S) (core R)
 mild-alter S R h l = record {
-    own = λ s x. h s .own x; told = λ s x j. h s .told x j; held = λ s x t e. h s .held x t e; lane = l
-  ; last = λ s. h s .opened; live = λ s i e. let p = and-parts (ltb i slots) (is-open (R .servers s .reads i)) e in slot-read S R s i (p .0) (h s .reads i (p .1)) }
+  own = λ s x. h s .own x;
+  told = λ s x j. h s .told x j;
+  held = λ s x t e. h s .held x t e;
+  lane = l;
+  last = λ s. h s .opened;
+  live = λ s i e. let p = and-parts (ltb i slots) (is-open (R .servers s .reads i)) e in slot-read S R s i (p .0) (h s .reads i (p .1));
+}
 
 -- one server changes mildly
 pub mild-put : (S : State) (s : ℕ) (r : Server) → Mild (S .servers s) r → (k : ℕ) → Mild (S .servers k) (upd (S .servers) s r k)
@@ -95,29 +99,54 @@ module _ (g : Code) where
 
   -- a message that is no tag notice is posted to all others
   pub fine-spread : (S : State) (s : ℕ) (m : Message) → Fine S → ((y o : ℕ) → heard y o m ≡ o)
-        → ((b : ℕ) → s < g .n → b < g .n → (s ≡ b → ⊥) → Good (g .n) (g .k) (has g) (core S) s b (S .lanes s b) m)
-        → Fine (with-lanes S (spread (S .lanes) s (g .n) m))
+      → ((b : ℕ) → s < g .n → b < g .n → (s ≡ b → ⊥) → Good (g .n) (g .k) (has g) (core S) s b (S .lanes s b) m)
+      → Fine (with-lanes S (spread (S .lanes) s (g .n) m))
   fine-spread S s m h quiet good =
       post-keeps (g .n) (g .k) (has g) (core S) (core (with-lanes S (spread (S .lanes) s (g .n) m))) m (λ a b. a ≡ s) quiet
-        (λ a b an bn ne e. rw e (good b (rw e at an) bn (λ q. ne (e ∙ q)))) h
-        (record { own = λ s x. refl; told = λ s x j. refl; held = λ s x u. refl; live = λ s p. refl; num = λ s p. refl; want = λ s p y. refl; last = λ s. refl
-                ; lane = λ a b. spread-cases (S .lanes) s (g .n) a b m })
+      (λ a b an bn ne e. rw e (good b (rw e at an) bn (λ q. ne (e ∙ q)))) h
+      (record {
+        own = λ s x. refl;
+        told = λ s x j. refl;
+        held = λ s x u. refl;
+        live = λ s p. refl;
+        num = λ s p. refl;
+        want = λ s p y. refl;
+        last = λ s. refl;
+        lane = λ a b. spread-cases (S .lanes) s (g .n) a b m;
+      })
 
   -- such a message is posted to one lane
   pub fine-post : (S : State) (i j : ℕ) (m : Message) → Fine S → ((y o : ℕ) → heard y o m ≡ o)
-        → Good (g .n) (g .k) (has g) (core S) i j (S .lanes i j) m
-        → Fine (with-lanes S (posted (S .lanes) i j m))
+      → Good (g .n) (g .k) (has g) (core S) i j (S .lanes i j) m
+      → Fine (with-lanes S (posted (S .lanes) i j m))
   fine-post S i j m h quiet good =
       post-keeps (g .n) (g .k) (has g) (core S) (core (with-lanes S (posted (S .lanes) i j m))) m (λ a b. (a ≡ i) × (b ≡ j)) quiet
-        (λ a b an bn ne e. rw (e .0, e .1) good) h
-        (record { own = λ s x. refl; told = λ s x j. refl; held = λ s x u. refl; live = λ s p. refl; num = λ s p. refl; want = λ s p y. refl; last = λ s. refl
-                ; lane = λ a b. posted-cases (S .lanes) i j a b m })
+      (λ a b an bn ne e. rw (e .0, e .1) good) h
+      (record {
+        own = λ s x. refl;
+        told = λ s x j. refl;
+        held = λ s x u. refl;
+        live = λ s p. refl;
+        num = λ s p. refl;
+        want = λ s p y. refl;
+        last = λ s. refl;
+        lane = λ a b. posted-cases (S .lanes) i j a b m;
+      })
 
   -- the oldest message is taken, and is no tag notice
   pub fine-take : (S : State) (a b : ℕ) (m : Message) (ms : List Message) → a < g .n → b < g .n → (a ≡ b → ⊥) → S .lanes a b ≡ m ∷ ms → Fine S
-        → ((y o : ℕ) → heard y o m ≡ o) → Fine (with-lanes S (taken (S .lanes) a b))
+      → ((y o : ℕ) → heard y o m ≡ o) → Fine (with-lanes S (taken (S .lanes) a b))
   fine-take S a b m ms an bn ne e h quiet =
       take-keeps (g .n) (g .k) (has g) (core S) (core (with-lanes S (taken (S .lanes) a b))) a b m an bn ne h
-        (record { own = λ s x. refl; held = λ s x u. refl; live = λ s p. refl; num = λ s p. refl; want = λ s p y. refl; last = λ s. refl
-                ; front = taken-here (S .lanes) a b m ms e; others = λ i j. taken-else (S .lanes) a b i j
-                ; hears = λ y. sym (quiet y (S .servers b .told y a)); else = λ s y j ne. refl })
+      (record {
+        own = λ s x. refl;
+        held = λ s x u. refl;
+        live = λ s p. refl;
+        num = λ s p. refl;
+        want = λ s p y. refl;
+        last = λ s. refl;
+        front = taken-here (S .lanes) a b m ms e;
+        others = λ i j. taken-else (S .lanes) a b i j;
+        hears = λ y. sym (quiet y (S .servers b .told y a));
+        else = λ s y j ne. refl;
+      })

@@ -1,57 +1,34 @@
 -- The log of accepted writes grows; in every run every symbol is right.
-use mathlib.Core.Path.{_≡_, refl, sym, ap, _∙_, subst}
+use mathlib.Core.Path.{_≡_, refl, sym, ap, _∙_}
 use mathlib.Core.List.{List, [], _∷_, _++_}
-use mathlib.Core.Bool.{Bool, true, false, cond, _&&_, _||_, not}
+use mathlib.Core.Bool.{true, false}
 use mathlib.Core.Logic.{_⊎_, inl, inr, ⊎-elim}
-use Prim.Native.Nat.{ℕ, zero, suc, _+_, _-_, _<_, _≤_, min, max}
+use Prim.Native.Nat.{ℕ, _+_, _-_, _<_, _≤_, _/_, _%_}
 use native.Mathlib.Omega.{arith}
-use lib.Dec.{eqb, ltb, leb}
-use lib.ListN.{getD, length, drop}
-use Rattle.std.specs.shelf.Lists.{kept-by}
-use Rattle.std.proofs.shelf.Ways.{tells}
-use Rattle.std.proofs.shelf.Tests.{or-from, and-right, both-ways, cases-bool, cases-eq, cases-order, cases-lt, eq-eqb, ne-eqb, eqb-true, eqb-false, ltb-true, ltb-false, leb-true, leb-false, lt-ltb, and-parts, and-from, and-cases, or-cases, or-parts, or-left, or-right, not-true, not-false, cond-both, cond-true, cond-false}
-use Rattle.rules.proofs.RankedMessages.{Message, Written, Tagged, Question, Plain, Coded, tag}
-use Rattle.rules.proofs.RankedWords.{upd, listed, every, some, seek, lowest, Lanes, posted, spread, taken, free}
-use Rattle.rules.proofs.Core.{Core, heard, Good, Sound, Asked}
-use Rattle.rules.proofs.Ranked.{Code, Entry, Waiting, Read, Server, State, has, holds, enters, same-entry, entered-value, kept, highest, top-tag, zeros, swap, is-open, core, slots, clients, depth, queue, most-writes, most-reads, most-height, no-read, fresh}
-use Rattle.std.specs.declared.option.Option.{Option}
-use Rattle.std.specs.declared.option.Option.the-variants.{None, Some}
-use Rattle.std.proofs.shelf.Counted.{getD-map-counting}
-use Rattle.rules.proofs.RankedSteps as Steps
-use Rattle.rules.proofs.RankedSteps.{Call, Write, Ask, Collect, Deliver, Apply, Encode, Sweep, Answer, Refused, Tag, Value, Number, Still, Nothing, Outcome, Count, Found, Turn, turn, check, unless, write-refusal, open-refusal, read-refusal, read-found, collect-refusal, collect-at, object-refusal, lane-refusal, put, entered, counted, queued, sifted, reading, tells as hearing, moved, new-read, opening, answered, in-hand, overtaken, Picked, room, history-room, elements, write-tag, write-done, write, open-done, free-slot, open-read, from-history, from-symbol, read, client-slot, collect-done, collect, wait-tag, picked, apply-done, apply-picked, apply, move-done, enter-done, encode-contained, within, encode-other, encode, floor, wanted, stays, settled, swept, sweep-done, sweep, fits, states, mixed, reply, question-done, open-slot, take-done, internal-answer, client-answer, settle, mendable, mended, got, oldest, deliver, step, after, run}
-use Rattle.rules.proofs.Words.{upd-same, upd-other, upd-keeps, upd-each, every-at, every-from, some-from, seek-found, lowest-le, enters-push, holds-push, enters-sift, highest-found}
-use Rattle.rules.proofs.Carry.{Carry, good-carry}
-use Rattle.rules.proofs.Take.{Take, take-keeps}
-use Rattle.rules.proofs.Move
-use Rattle.rules.proofs.Move.{move-keeps}
-use Rattle.rules.proofs.Sweep
-use Rattle.rules.proofs.Sweep.{Idle, below, level, sweep-keeps}
-use Rattle.rules.proofs.Replies.{stated, opens, replies, counts, usable, starts}
-use Rattle.rules.proofs.Frames.{Slot, same, fresh-read, Mild, mild-self, spread-from, spread-else, taken-here, taken-else, with-lanes, Fine, fine-put, fine-spread, fine-post, fine-take}
-use mathlib.Core.Path.{ap₂}
+use lib.Dec.{eqb}
+use lib.ListN.{getD, length}
 use Rattle.std.specs.shelf.Lists.{All}
-use Rattle.std.proofs.shelf.Elements.{all-push, all-drop, all-kept-by, all-weaker}
-use Rattle.std.proofs.shelf.Counted.{length-map-counting, fill-by-all}
-use Rattle.rules.proofs.Core.{Replied}
-use Rattle.rules.proofs.RankedLaw.{mix, Lawful, Decoded, Tested, only, Allowed, Allowed-message}
-use Rattle.rules.proofs.Calls.{unless-both, checked, object-server, object-object, read-server}
-use Rattle.rules.proofs.Deliver.{lane-ends, states-stated, open-found, mends}
-use Rattle.rules.proofs.Source.{Owner, Sent, Sourced, waited}
-use Rattle.rules.proofs.Algebra.{Cells, Mix, mix-tags, swap-mix, mix-same}
-use Rattle.rules.proofs.Calls.{overtaken-open, read-object}
-use Rattle.rules.proofs.Values.{live, Same-read, Still-reads, still-self, Of-entry, Of-tag, Right, Told, Valued, kept-right, lanes-still, put-still, put-valued}
-use Rattle.rules.proofs.Words.{ltb-step, upto, upto-none, upto-all, upto-here, upto-next, upto-else}
-use Rattle.rules.proofs.Valuing.{closed-same, still-same, right-same, decoded-right}
-use Rattle.rules.proofs.Source.{Found-right}
-use Rattle.rules.proofs.Mixing.{reply-right, states-of, held-of, mended-right}
-use Prim.Native.Nat.{_*_, _/_, _%_}
-use mathlib.Core.List.{append-nil, append-assoc}
-use Rattle.rules.proofs.RankedLaw.{Event, event, events, accepted-by, accepted, given, Coded-right, Allowed-run}
-use Rattle.rules.proofs.Valuing.{write-valued, read-valued, collect-valued, apply-valued, encode-valued, sweep-valued}
+use Rattle.std.proofs.shelf.Tests.{or-from, and-right, both-ways, cases-bool, eq-eqb, ne-eqb, eqb-true, and-from, or-cases, or-parts, cond-both, cond-true, cond-false}
+use Rattle.rules.proofs.RankedMessages.{Message, Written, Tagged, Question, Plain, Coded, tag}
+use Rattle.rules.proofs.RankedWords.{upd}
+use Rattle.rules.proofs.Ranked.{Code, Entry, Waiting, Server, State, holds, enters, same-entry, entered-value, kept, zeros, clients}
+use Rattle.rules.proofs.RankedSteps as Steps
+use Rattle.rules.proofs.RankedSteps.{Call, Write, Ask, Collect, Deliver, Apply, Encode, Sweep, Answer, Refused, Tag, Still, Nothing, Outcome, Found, Turn, turn, entered, counted, queued, sifted, reading, moved, opening, write-tag, write-done, write, open-done, free-slot, collect-done, wait-tag, apply-done, move-done, enter-done, sweep-done, reply, question-done, take-done, step, after}
+use Rattle.rules.proofs.Words.{upd-each, holds-push}
+use Rattle.rules.proofs.Move
+use Rattle.rules.proofs.Sweep
+use Rattle.rules.proofs.Sweep.{below}
+use Rattle.std.proofs.shelf.Elements.{all-weaker}
+use Rattle.rules.proofs.RankedFacts.{Lawful, only, Allowed}
+use Rattle.rules.proofs.Calls.{object-server, object-object}
+use Rattle.rules.proofs.Deliver.{lane-ends}
+use Rattle.rules.proofs.Source.{Sent, Sourced, waited, read-sourced, collect-sourced, apply-sourced, encode-sourced, sweep-sourced, deliver-sourced}
+use Rattle.rules.proofs.Algebra.{Cells, Mix, mix-same}
+use Rattle.rules.proofs.Values.{Of-entry, Of-tag, Told, Valued}
+use Rattle.rules.proofs.Valuing.{decoded-right, write-valued, read-valued, collect-valued, apply-valued, encode-valued, sweep-valued}
 use Rattle.rules.proofs.Carrying.{deliver-valued, found-right}
-use Rattle.rules.proofs.Source.{write-sourced, read-sourced, collect-sourced, apply-sourced, encode-sourced, sweep-sourced, deliver-sourced}
 use Rattle.rules.proofs.Cases.{write-cases, apply-cases, read-cases, collect-cases, sweep-cases, encode-cases, deliver-cases}
-use Rattle.rules.proofs.Always.{Stands, step-stands, fresh-stands}
+use Rattle.rules.proofs.Always.{Stands, step-stands}
 
 -- ---- heights applied only rise
 
@@ -116,10 +93,11 @@ entered-grow : (g : Code) (L : List Entry) (e : Entry) (x t : ℕ) → enters L 
 unfolding entered-value enters
 entered-grow g [] e x t h = absurd (both-ways false refl h)
 entered-grow g (d ∷ L) e x t h = elim (cases-bool (same-entry x t d)) [
-    inl q ↦ cond-true (same-entry x t d) (d .value) (entered-value g (L ++ e ∷ []) x t) q ∙ sym (cond-true (same-entry x t d) (d .value) (entered-value g L x t) q)
+  | inl q ↦ cond-true (same-entry x t d) (d .value) (entered-value g (L ++ e ∷ []) x t) q ∙ sym (cond-true (same-entry x t d) (d .value) (entered-value g L x t) q)
   | inr q ↦ cond-false (same-entry x t d) (d .value) (entered-value g (L ++ e ∷ []) x t) q
       ∙ entered-grow g L e x t (⊎-elim (λ w. absurd (both-ways (same-entry x t d) q w)) (λ w. w) (or-cases (same-entry x t d) (enters L x t) h))
-      ∙ sym (cond-false (same-entry x t d) (d .value) (entered-value g L x t) q) ]
+      ∙ sym (cond-false (same-entry x t d) (d .value) (entered-value g L x t) q)
+]
 
 entered-new : (g : Code) (L : List Entry) (e : Entry) → enters L (e .object) (e .tag) ≡ false → entered-value g (L ++ e ∷ []) (e .object) (e .tag) ≡ e .value
 unfolding entered-value enters
@@ -132,15 +110,17 @@ entered-cases : (g : Code) (L : List Entry) (e : Entry) (x t : ℕ) → (entered
 unfolding entered-value
 entered-cases g [] e x t = cond-both (same-entry x t e) (e .value) (zeros g) (λ v. (v ≡ zeros g) ⊎ (v ≡ e .value)) (λ _. inr refl) (λ _. inl refl)
 entered-cases g (d ∷ L) e x t = elim (cases-bool (same-entry x t d)) [
-    inl q ↦ inl (cond-true (same-entry x t d) (d .value) (entered-value g (L ++ e ∷ []) x t) q ∙ sym (cond-true (same-entry x t d) (d .value) (entered-value g L x t) q))
+  | inl q ↦ inl (cond-true (same-entry x t d) (d .value) (entered-value g (L ++ e ∷ []) x t) q ∙ sym (cond-true (same-entry x t d) (d .value) (entered-value g L x t) q))
   | inr q ↦ ⊎-elim (λ w. inl (cond-false (same-entry x t d) (d .value) (entered-value g (L ++ e ∷ []) x t) q ∙ w ∙ sym (cond-false (same-entry x t d) (d .value) (entered-value g L x t) q)))
-              (λ w. inr (cond-false (same-entry x t d) (d .value) (entered-value g (L ++ e ∷ []) x t) q ∙ w)) (entered-cases g L e x t) ]
+      (λ w. inr (cond-false (same-entry x t d) (d .value) (entered-value g (L ++ e ∷ []) x t) q ∙ w)) (entered-cases g L e x t)
+]
 
 pub kept-grow : (g : Code) (L : List Entry) (e : Entry) (x t : ℕ) → holds L x t ≡ true → kept g (L ++ e ∷ []) x t ≡ kept g L x t
 unfolding kept
 kept-grow g L e x t h = elim (cases-bool (eqb t 0)) [
-    inl q ↦ rw q
-  | inr q ↦ rw q (entered-grow g L e x t (⊎-elim (λ w. absurd (both-ways (eqb t 0) q w)) (λ w. w) (or-cases (eqb t 0) (enters L x t) h))) ]
+  | inl q ↦ rw q
+  | inr q ↦ rw q (entered-grow g L e x t (⊎-elim (λ w. absurd (both-ways (eqb t 0) q w)) (λ w. w) (or-cases (eqb t 0) (enters L x t) h)))
+]
 
 pub kept-new : (g : Code) (L : List Entry) (e : Entry) → 0 < e .tag → enters L (e .object) (e .tag) ≡ false → kept g (L ++ e ∷ []) (e .object) (e .tag) ≡ e .value
 unfolding kept
@@ -156,9 +136,10 @@ module _ (g : Code) (R : Lawful g) (L : List Entry) (e : Entry) (pos : 0 < e .ta
 
   pub cells-grow : Cells g R L → length (e .value) ≡ g .w → ((c : ℕ) → c < g .w → getD (e .value) c 0 < g .q) → Cells g R (L ++ e ∷ [])
   cells-grow h long less = record {
-      long = λ x t. ⊎-elim (λ q. ap length q ∙ h .long x t) (λ q. ap length q ∙ long) (kept-cases g L e x t)
-    ; below = λ x t c lt. ⊎-elim (λ q. rw q (h .below x t c lt)) (λ q. rw q (less c lt)) (kept-cases g L e x t)
-    ; zero-tag = λ x. kept-grow g L e x 0 refl ∙ h .zero-tag x }
+    long = λ x t. ⊎-elim (λ q. ap length q ∙ h .long x t) (λ q. ap length q ∙ long) (kept-cases g L e x t);
+    below = λ x t c lt. ⊎-elim (λ q. rw q (h .below x t c lt)) (λ q. rw q (less c lt)) (kept-cases g L e x t);
+    zero-tag = λ x. kept-grow g L e x 0 refl ∙ h .zero-tag x;
+  }
 
   tag-grow : (x t : ℕ) → Of-tag g R L x t → Of-tag g R (L ++ e ∷ []) x t
   tag-grow x t h = holds-push L e x t h
@@ -175,16 +156,21 @@ module _ (g : Code) (R : Lawful g) (L : List Entry) (e : Entry) (pos : 0 < e .ta
 
   pub sourced-grow : (S : State) → Sourced g (Of-entry g R L) (Of-tag g R L) S → Sourced g (Of-entry g R (L ++ e ∷ [])) (Of-tag g R (L ++ e ∷ [])) S
   sourced-grow S h = record {
-      servers = λ s. record {
-          own = λ x. tag-grow x _ (h .servers s .own x)
-        ; history = all-weaker (Of-entry g R L) (Of-entry g R (L ++ e ∷ [])) entry-grow (S .servers s .history) (h .servers s .history)
-        ; waiting = all-weaker (λ v. Of-entry g R L (waited g v)) (λ v. Of-entry g R (L ++ e ∷ []) (waited g v)) (λ v. entry-grow (waited g v)) (S .servers s .waiting) (h .servers s .waiting)
-        ; reads = λ i y. tag-grow y _ (h .servers s .reads i y) }
-    ; lanes = λ a b. all-weaker (Sent g (Of-entry g R L) (Of-tag g R L) a) (Sent g (Of-entry g R (L ++ e ∷ [])) (Of-tag g R (L ++ e ∷ [])) a) (sent-grow a) (S .lanes a b) (h .lanes a b) }
+    servers = λ s. record {
+      own = λ x. tag-grow x _ (h .servers s .own x);
+      history = all-weaker (Of-entry g R L) (Of-entry g R (L ++ e ∷ [])) entry-grow (S .servers s .history) (h .servers s .history);
+      waiting = all-weaker (λ v. Of-entry g R L (waited g v)) (λ v. Of-entry g R (L ++ e ∷ []) (waited g v)) (λ v. entry-grow (waited g v)) (S .servers s .waiting) (h .servers s .waiting);
+      reads = λ i y. tag-grow y _ (h .servers s .reads i y);
+    };
+    lanes = λ a b. all-weaker (Sent g (Of-entry g R L) (Of-tag g R L) a) (Sent g (Of-entry g R (L ++ e ∷ [])) (Of-tag g R (L ++ e ∷ [])) a) (sent-grow a) (S .lanes a b) (h .lanes a b);
+  }
 
   mix-grow : (s : ℕ) (T : ℕ → ℕ) (v : List ℕ) → ((y : ℕ) → y < g .k → Of-tag g R L y (T y)) → Mix g R L s T v → Mix g R (L ++ e ∷ []) s T v
-  mix-grow s T v tags h = record { long = h .long; cells = λ c lt. h .cells c lt ∙ mix-same g R s (λ y. getD (kept g L y (T y)) c 0) (λ y. getD (kept g (L ++ e ∷ []) y (T y)) c 0)
-      (λ y yk. ap (λ z. g .times (g .coefficient s y) (getD z c 0)) (sym (kept-grow g L e y (T y) (tags y yk)))) }
+  mix-grow s T v tags h = record {
+    long = h .long;
+    cells = λ c lt. h .cells c lt ∙ mix-same g R s (λ y. getD (kept g L y (T y)) c 0) (λ y. getD (kept g (L ++ e ∷ []) y (T y)) c 0)
+        (λ y yk. ap (λ z. g .times (g .coefficient s y) (getD z c 0)) (sym (kept-grow g L e y (T y) (tags y yk))));
+  }
 
   told-grow : (S : State) (a b : ℕ) → Sourced g (Of-entry g R L) (Of-tag g R L) S → (m : Message) → Told g R L a (S .servers a) (S .servers b) m → Told g R (L ++ e ∷ []) a (S .servers a) (S .servers b) m
   told-grow S a b src (Written x v t ck) h = tt
@@ -195,11 +181,13 @@ module _ (g : Code) (R : Lawful g) (L : List Entry) (e : Entry) (pos : 0 < e .ta
 
   pub valued-grow : (S : State) → Sourced g (Of-entry g R L) (Of-tag g R L) S → Valued g R L S → Valued g R (L ++ e ∷ []) S
   valued-grow S src h = record {
-      servers = λ s sn. let q = h .servers s sn in record {
-          symbol = mix-grow s (S .servers s .own) (S .servers s .symbol) (λ y _. src .servers s .own y) (q .symbol)
-        ; object = q .object
-        ; hand = λ i lv j jn w. mix-grow j (S .servers s .reads i .tags) (S .servers s .reads i .symbols j) (λ y _. src .servers s .reads i y) (q .hand i lv j jn w) }
-    ; lanes = λ a b an bn ne. all-weaker (Told g R L a (S .servers a) (S .servers b)) (Told g R (L ++ e ∷ []) a (S .servers a) (S .servers b)) (told-grow S a b src) (S .lanes a b) (h .lanes a b an bn ne) }
+    servers = λ s sn. let q = h .servers s sn in record {
+      symbol = mix-grow s (S .servers s .own) (S .servers s .symbol) (λ y _. src .servers s .own y) (q .symbol);
+      object = q .object;
+      hand = λ i lv j jn w. mix-grow j (S .servers s .reads i .tags) (S .servers s .reads i .symbols j) (λ y _. src .servers s .reads i y) (q .hand i lv j jn w);
+    };
+    lanes = λ a b an bn ne. all-weaker (Told g R L a (S .servers a) (S .servers b)) (Told g R (L ++ e ∷ []) a (S .servers a) (S .servers b)) (told-grow S a b src) (S .lanes a b) (h .lanes a b an bn ne);
+  }
 
 -- ---- one step, with the log
 
@@ -212,9 +200,9 @@ unfolding enters
 new-tag [] s top x lt h = refl
 new-tag (d ∷ L) s top x lt h = or-from (same-entry x (tag (top + 1) s) d) (enters L x (tag (top + 1) s))
     (and-right (eqb (d .object) x) (eqb (d .tag) (tag (top + 1) s)) (ne-eqb (d .tag) (tag (top + 1) s) (λ q.
-        let a : d .tag % 6 ≡ s = omega arith in
-        let b = h .0 a in
-        omega arith)))
+    let a : d .tag % 6 ≡ s = omega arith in
+    let b = h .0 a in
+    omega arith)))
     (new-tag L s top x lt (h .1))
 
 tops-rise : (g : Code) (L : List Entry) (S : State) (t : Turn) → Tops g L S → ((s : ℕ) → S .servers s .top ≤ t .next .servers s .top) → Tops g L (t .next)
@@ -245,10 +233,11 @@ module _ (g : Code) (R : Lawful g) (L : List Entry) (S : State) (h : Told-right 
   step-sourced (Apply s) f ok no-write = apply-sourced g (Of-entry g R L) (Of-tag g R L) (λ e q. q .0) (λ x. refl) S (h .sourced) s
   step-sourced (Encode s x) f ok no-write = encode-sourced g (Of-entry g R L) (Of-tag g R L) (λ e q. q .0) (λ x. refl) S (h .sourced) s x f (λ e i rec.
       let sn = object-server g s x e in
-      let xk = object-object g s x e in
-      (h .sourced .servers s .own x,
-       decoded-right g R L (h .cells) (only g s) (λ _. S .servers s .symbol) x (f .value) (S .servers s .own) xk (ok sn xk .decoded rec)
-         (λ j jn q. rw (eqb-true j s q) (h .valued .servers s sn .symbol))))
+      let xk = object-object g s x e in (
+        h .sourced .servers s .own x,
+        decoded-right g R L (h .cells) (only g s) (λ _. S .servers s .symbol) x (f .value) (S .servers s .own) xk (ok sn xk .decoded rec)
+            (λ j jn q. rw (eqb-true j s q) (h .valued .servers s sn .symbol)),
+      ))
   step-sourced (Sweep s x) f ok no-write = sweep-sourced g (Of-entry g R L) (Of-tag g R L) (λ e q. q .0) (λ x. refl) S (h .sourced) s x
 
   step-valued : (c : Call) (f : Found) → Valued g R L (step g S c f .next)
@@ -262,8 +251,9 @@ module _ (g : Code) (R : Lawful g) (L : List Entry) (S : State) (h : Told-right 
 
   pub step-told : (m : Steps.Move) → Allowed g S (m .call) (m .found) → ((s x : ℕ) (v : List ℕ) → m .call ≡ Write s x v → ⊥) → Told-right g R L (after g S m)
   step-told m ok no-write = record {
-      stands = step-stands g R S m (h .stands)
-    ; cells = h .cells
-    ; sourced = step-sourced (m .call) (m .found) ok no-write
-    ; valued = step-valued (m .call) (m .found)
-    ; tops = tops-rise g L S (step g S (m .call) (m .found)) (h .tops) (rises g S (m .call) (m .found)) }
+    stands = step-stands g R S m (h .stands);
+    cells = h .cells;
+    sourced = step-sourced (m .call) (m .found) ok no-write;
+    valued = step-valued (m .call) (m .found);
+    tops = tops-rise g L S (step g S (m .call) (m .found)) (h .tops) (rises g S (m .call) (m .found));
+  }

@@ -1,21 +1,18 @@
 -- What a server has applied is no higher than its greatest height, and the log has tags of writes only.
-use mathlib.Core.Path.{_≡_, refl, sym, ap, ap₂, _∙_, subst}
+use mathlib.Core.Path.{_≡_, sym, subst}
 use mathlib.Core.List.{List, [], _∷_, _++_, append-nil}
-use mathlib.Core.Bool.{Bool, true, false, cond, _&&_, _||_, not}
-use mathlib.Core.Logic.{_⊎_, inl, inr, ⊎-elim}
-use Prim.Native.Nat.{ℕ, zero, suc, _+_, _*_, _/_, _%_, _<_, _≤_, max}
+use mathlib.Core.Bool.{true, cond}
+use Prim.Native.Nat.{ℕ, _+_, _/_, _<_, _≤_}
 use native.Mathlib.Omega.{arith}
-use lib.Dec.{eqb, ltb, leb}
+use lib.Dec.{eqb}
 use Rattle.std.specs.shelf.Lists.{All}
-use Rattle.std.specs.declared.option.Option.the-variants.{Some}
-use Rattle.std.proofs.shelf.Tests.{cases-eq, cond-both, eq-eqb, ne-eqb, eqb-true}
+use Rattle.std.proofs.shelf.Tests.{cond-both, eqb-true}
 use Rattle.std.proofs.shelf.Elements.{all-push, all-weaker}
 use Rattle.rules.specs.Turns.{Call, Write, Read as Ask, Collect, Deliver, Apply, Encode, Sweep, Found}
 use Rattle.rules.proofs.RankedMessages.{height}
-use Rattle.rules.proofs.Ranked.{Code, Entry, Waiting, Server, State}
-use Rattle.rules.proofs.RankedSteps as Steps
-use Rattle.rules.proofs.RankedSteps.{Answer, Refused, Tag, Nothing, Turn, turn, Picked, write-refusal, write-tag, write-done, apply-done, wait-tag, picked, step, tag-fits, entered, counted, queued, reading}
-use Rattle.rules.proofs.RankedLaw.{Lawful, accepted-by, applies}
+use Rattle.rules.proofs.Ranked.{Code, Entry, Waiting, State}
+use Rattle.rules.proofs.RankedSteps.{write-tag, write-done, apply-done, wait-tag, step, tag-fits, entered, counted, queued, reading}
+use Rattle.rules.proofs.RankedFacts.{Lawful, accepted-by}
 use Rattle.rules.proofs.Words.{upd-same}
 use Rattle.rules.proofs.Cases.{write-cases, apply-cases}
 use Rattle.rules.proofs.Coded.{checked-write, top-after}
@@ -65,7 +62,7 @@ module _ (g : Code) (R : Lawful g) (L : List Entry) (h : Proper g L) (S : State)
   step-proper (Write s x v) f = write-cases g S (λ t. Proper g (L ++ accepted-by (Write s x v) (t .answer))) (λ r. nil-proper) s x v (λ ok.
       let w = write-ok g R S s x v ok in
       all-push (λ e. (tag-fits g (e .tag) ≡ true) × (0 < e .tag)) L (record { object = x; tag = write-tag g (S .servers s) s; value = v }) h
-        (tag-ok g R (S .servers s .top + 1) s (omega arith) (let l = w .1 in omega arith) (w .0), omega arith))
+      (tag-ok g R (S .servers s .top + 1) s (omega arith) (let l = w .1 in omega arith) (w .0), omega arith))
   step-proper (Ask s x l) f = nil-proper
   step-proper (Collect s m l) f = nil-proper
   step-proper (Deliver a b) f = nil-proper

@@ -1,63 +1,31 @@
 -- What a write and an apply make of the peaks; reads answered at once give the latest, in every run.
-use mathlib.Core.Path.{_≡_, refl, sym, ap, _∙_, subst}
-use mathlib.Core.List.{List, [], _∷_, _++_}
-use mathlib.Core.Bool.{Bool, true, false, cond, _&&_, _||_, not}
+use mathlib.Core.Path.{_≡_, refl, sym, ap, _∙_, subst, ap₂}
+use mathlib.Core.List.{List, [], _∷_, _++_, append-nil}
+use mathlib.Core.Bool.{Bool, true, false, cond}
 use mathlib.Core.Logic.{_⊎_, inl, inr, ⊎-elim}
-use Prim.Native.Nat.{ℕ, zero, suc, _+_, _-_, _<_, _≤_, min, max}
+use Prim.Native.Nat.{ℕ, _+_, _-_, _<_, _≤_, max, _/_, _%_}
 use native.Mathlib.Omega.{arith}
-use lib.Dec.{eqb, ltb, leb}
-use lib.ListN.{getD, length, drop}
-use Rattle.std.specs.shelf.Lists.{kept-by}
-use Rattle.std.proofs.shelf.Ways.{tells}
-use Rattle.std.proofs.shelf.Tests.{or-from, and-left, and-right, both-ways, cases-bool, cases-eq, cases-order, cases-lt, eq-eqb, ne-eqb, eqb-true, eqb-false, ltb-true, ltb-false, leb-true, leb-false, lt-ltb, and-parts, and-from, and-cases, or-cases, or-parts, or-left, or-right, not-true, not-false, cond-both, cond-true, cond-false}
-use Rattle.rules.proofs.RankedMessages.{Message, Written, Tagged, Question, Plain, Coded, tag, height, server}
-use Rattle.rules.proofs.RankedWords.{upd, listed, every, some, seek, lowest, Lanes, posted, spread, taken, free}
-use Rattle.rules.proofs.Core.{Core, heard, Good, Sound, Asked}
-use Rattle.rules.proofs.Ranked.{Code, Entry, Waiting, Read, Server, State, has, holds, enters, same-entry, kept, highest, top-tag, zeros, swap, is-open, core, slots, clients, depth, queue, most-writes, most-reads, most-height, no-read, fresh}
-use Rattle.std.specs.declared.option.Option.{Option}
-use Rattle.std.specs.declared.option.Option.the-variants.{None, Some}
-use Rattle.std.proofs.shelf.Counted.{getD-map-counting}
-use Rattle.rules.proofs.RankedSteps as Steps
-use Rattle.rules.proofs.RankedSteps.{Call, Write, Ask, Collect, Deliver, Apply, Encode, Sweep, Answer, Refused, Tag, Value, Number, Still, Nothing, Outcome, Count, Found, Turn, turn, check, unless, write-refusal, open-refusal, read-refusal, read-found, collect-refusal, collect-at, object-refusal, lane-refusal, put, entered, counted, queued, sifted, reading, tells as hearing, moved, new-read, opening, answered, in-hand, overtaken, Picked, room, history-room, elements, write-tag, write-done, write, open-done, free-slot, open-read, from-history, from-symbol, read, client-slot, collect-done, collect, wait-tag, picked, apply-done, apply-picked, apply, move-done, enter-done, encode-contained, within, encode-other, encode, floor, wanted, stays, settled, swept, sweep-done, sweep, fits, states, mixed, reply, question-done, open-slot, take-done, internal-answer, client-answer, settle, mendable, mended, got, oldest, deliver, step, after, run}
-use Rattle.rules.proofs.Words.{upd-same, upd-other, upd-keeps, upd-each, every-at, every-from, some-from, seek-found, lowest-le, enters-push, holds-push, enters-sift, highest-found}
-use Rattle.rules.proofs.Carry.{Carry, good-carry}
-use Rattle.rules.proofs.Take.{Take, take-keeps}
-use Rattle.rules.proofs.Move
-use Rattle.rules.proofs.Move.{move-keeps}
-use Rattle.rules.proofs.Sweep
-use Rattle.rules.proofs.Sweep.{Idle, below, level, sweep-keeps}
-use Rattle.rules.proofs.Replies.{stated, opens, replies, counts, usable, starts}
-use Rattle.rules.proofs.Frames.{Slot, same, fresh-read, Mild, mild-self, spread-from, spread-else, taken-here, taken-else, with-lanes, Fine, fine-put, fine-spread, fine-post, fine-take}
-use mathlib.Core.Path.{ap₂}
+use lib.Dec.{eqb, ltb}
+use lib.ListN.{getD}
 use Rattle.std.specs.shelf.Lists.{All}
-use Rattle.std.proofs.shelf.Elements.{all-push, all-drop, all-kept-by, all-weaker}
-use Rattle.std.proofs.shelf.Counted.{length-map-counting, fill-by-all}
-use Rattle.rules.proofs.Core.{Replied}
-use Rattle.rules.proofs.RankedLaw.{mix, Lawful, Decoded, Tested, only, Allowed, Allowed-message}
-use Rattle.rules.proofs.Calls.{unless-both, checked, object-server, object-object, read-server}
-use Rattle.rules.proofs.Deliver.{lane-ends, states-stated, open-found, mends}
-use Rattle.rules.proofs.Source.{Owner, Sent, Sourced, waited, Chosen, picked-all}
-use Rattle.rules.proofs.Algebra.{Cells, Mix, mix-tags, swap-mix, mix-same}
-use Rattle.rules.proofs.Calls.{overtaken-open, read-object}
-use Rattle.rules.proofs.Values.{live, Same-read, Still-reads, still-self, Of-entry, Of-tag, Right, Told, Valued, kept-right, lanes-still, put-still, put-valued}
-use Rattle.rules.proofs.Words.{ltb-step, upto, upto-none, upto-all, upto-here, upto-next, upto-else}
-use Rattle.rules.proofs.Valuing.{closed-same, still-same, right-same, decoded-right}
-use Rattle.rules.proofs.Source.{Found-right}
-use Rattle.rules.proofs.Mixing.{reply-right, states-of, held-of, mended-right}
-use Prim.Native.Nat.{_*_, _/_, _%_}
-use mathlib.Core.List.{append-nil, append-assoc}
-use Rattle.rules.proofs.RankedLaw.{Event, event, events, accepted-by, accepted, given, Coded-right, Allowed-run}
-use Rattle.rules.proofs.Valuing.{write-valued, read-valued, collect-valued, apply-valued, encode-valued, sweep-valued}
-use Rattle.rules.proofs.Carrying.{deliver-valued, found-right}
-use Rattle.rules.proofs.Source.{write-sourced, read-sourced, collect-sourced, apply-sourced, encode-sourced, sweep-sourced, deliver-sourced}
-use Rattle.rules.proofs.Cases.{write-cases, apply-cases, read-cases, collect-cases, sweep-cases, encode-cases, deliver-cases}
-use Rattle.rules.proofs.Always.{Stands, step-stands, fresh-stands}
-use Rattle.rules.proofs.Algebra.{no-cells, no-mix}
-use Rattle.rules.proofs.Growing.{Told-right, Tops, step-told, cells-grow, sourced-grow, valued-grow, kept-new, new-tag, rises}
-use Rattle.rules.proofs.RankedLaw.{best, applies, applied, latest, Coded-always, Read-always}
-use mathlib.Core.Path.{fun-ext}
-use Rattle.rules.proofs.Peaks.{peak, best-push, best-log, Peaks, read-peaks, collect-peaks, encode-peaks, sweep-peaks, deliver-peaks, overtaken-left, read-latest}
-use Rattle.rules.proofs.Words.{top-push, top-bound, top-found}
+use Rattle.std.proofs.shelf.Tests.{or-from, and-left, both-ways, cases-bool, cases-eq, eq-eqb, ne-eqb, eqb-true, ltb-false, and-parts, and-from, or-cases, or-parts, or-right, cond-both, cond-true, cond-false}
+use Rattle.rules.proofs.RankedMessages.{Written, tag, height, server}
+use Rattle.rules.proofs.RankedWords.{upd, listed, Lanes, spread}
+use Rattle.rules.proofs.Ranked.{Code, Entry, Waiting, Read, Server, State, enters, same-entry, highest, top-tag, is-open, slots, clients, fresh}
+use Rattle.std.specs.declared.option.Option.the-variants.{Some}
+use Rattle.rules.proofs.RankedSteps as Steps
+use Rattle.rules.proofs.RankedSteps.{Call, Write, Ask, Collect, Deliver, Apply, Encode, Sweep, Answer, Found, write-refusal, entered, counted, queued, reading, overtaken, Picked, write-tag, write-done, write, wait-tag, picked, apply-done, step, after}
+use Rattle.rules.proofs.Words.{upd-same, upd-other, enters-push, top-push}
+use Rattle.rules.proofs.Move
+use Rattle.rules.proofs.Sweep
+use Rattle.std.proofs.shelf.Elements.{all-push, all-weaker}
+use Rattle.rules.proofs.RankedFacts.{Lawful, Allowed, accepted-by, best, applies}
+use Rattle.rules.proofs.Calls.{overtaken-open}
+use Rattle.rules.proofs.Source.{waited, Chosen, picked-all}
+use Rattle.rules.proofs.Values.{live, Of-entry, Of-tag}
+use Rattle.rules.proofs.Cases.{write-cases, apply-cases}
+use Rattle.rules.proofs.Growing.{Told-right, new-tag, rises}
+use Rattle.rules.proofs.Peaks.{peak, best-push, best-log, Peaks, read-peaks, collect-peaks, encode-peaks, sweep-peaks, deliver-peaks, overtaken-left}
 use Rattle.rules.proofs.Coded.{move-told, fresh-told, checked-write, top-after}
 
 -- a tag is of one object
@@ -67,12 +35,14 @@ Unique L = (x y t : ℕ) → enters L x t ≡ true → enters L y t ≡ true →
 unique-push : (L : List Entry) (e : Entry) → Unique L → ((y : ℕ) → enters L y (e .tag) ≡ false) → Unique (L ++ e ∷ [])
 unique-push L e h new x y t a b =
     ⊎-elim (λ p. ⊎-elim (λ q. h x y t p q) (λ q. absurd (both-ways (enters L x (e .tag)) (new x) (subst (λ z. enters L x z ≡ true) (sym (tag-of y q)) p))) (side y b))
-           (λ p. ⊎-elim (λ q. absurd (both-ways (enters L y (e .tag)) (new y) (subst (λ z. enters L y z ≡ true) (sym (tag-of x p)) q))) (λ q. sym (object-of x p) ∙ object-of y q) (side y b)) (side x a)
+    (λ p. ⊎-elim (λ q. absurd (both-ways (enters L y (e .tag)) (new y) (subst (λ z. enters L y z ≡ true) (sym (tag-of x p)) q))) (λ q. sym (object-of x p) ∙ object-of y q) (side y b)) (side x a)
   where
     side : (z : ℕ) → enters (L ++ e ∷ []) z t ≡ true → (enters L z t ≡ true) ⊎ (same-entry z t e ≡ true)
     side z w = or-cases (enters L z t) (same-entry z t e) (sym (enters-push L e z t) ∙ w)
+
     tag-of : (z : ℕ) → same-entry z t e ≡ true → e .tag ≡ t
     tag-of z w = eqb-true (e .tag) t (and-parts (eqb (e .object) z) (eqb (e .tag) t) w .1)
+
     object-of : (z : ℕ) → same-entry z t e ≡ true → e .object ≡ z
     object-of z w = eqb-true (e .object) z (and-parts (eqb (e .object) z) (eqb (e .tag) t) w .0)
 
@@ -83,11 +53,11 @@ all-entered P (d ∷ L) x t h e = ⊎-elim (λ q. subst P (eqb-true (d .tag) t (
 
 -- one tag more is applied at s: the peak of x rises to it, and no other changes
 module _ (g : Code) (L M : List Entry) (A B : ℕ → List ℕ) (S : State) (h : Peaks g L A S) (s x t : ℕ) (v : List ℕ) (all : Bool) (r : Server) (Ln : Lanes)
-         (own-same : r .own ≡ S .servers s .own) (history-more : r .history ≡ S .servers s .history ++ record { object = x; tag = t; value = v } ∷ [])
-         (reads-after : r .reads ≡ overtaken (S .servers s .reads) all x t v)
-         (elsewhere : (k : ℕ) → (k ≡ s → ⊥) → (y : ℕ) → best M y (B k) ≡ best L y (A k))
-         (here-else : (y : ℕ) → (y ≡ x → ⊥) → best M y (B s) ≡ best L y (A s))
-         (here : best M x (B s) ≡ max (best L x (A s)) t) where
+    (own-same : r .own ≡ S .servers s .own) (history-more : r .history ≡ S .servers s .history ++ record { object = x; tag = t; value = v } ∷ [])
+    (reads-after : r .reads ≡ overtaken (S .servers s .reads) all x t v)
+    (elsewhere : (k : ℕ) → (k ≡ s → ⊥) → (y : ℕ) → best M y (B k) ≡ best L y (A k))
+    (here-else : (y : ℕ) → (y ≡ x → ⊥) → best M y (B s) ≡ best L y (A s))
+    (here : best M x (B s) ≡ max (best L x (A s)) t) where
   raised : (y : ℕ) → peak r y ≡ cond (eqb x y) (max (peak (S .servers s) y) t) (peak (S .servers s) y)
   raised y = ap₂ (λ (o : ℕ → ℕ) (es : List Entry). max (o y) (top-tag y es)) own-same history-more
       ∙ ap (max (S .servers s .own y)) (top-push y (S .servers s .history) (record { object = x; tag = t; value = v }))
@@ -102,23 +72,28 @@ module _ (g : Code) (L M : List Entry) (A B : ℕ → List ℕ) (S : State) (h :
       let same-read : r .reads i ≡ rs i = at ∙ overtaken-open rs all x t v i o in
       let old = h .asked s i sn ic (and-from (ltb i slots) (is-open (rs i)) (a .0) (ap is-open (sym same-read) ∙ a .1)) in
       rw same-read (elim (cases-eq (rs i .object) x) [
-        inl e ↦
-          let left = or-parts all (ltb (rs i .tags x) t) (overtaken-left rs all x t v i ic o e) in
-          let low = ltb-false (rs i .tags x) t (left .1) in
-          let old′ : best L x (A s) ≡ rs i .tags x = rw e at old in
-          rw e (here ∙ (omega arith))
-      | inr ne ↦ here-else (rs i .object) ne ∙ old ])
+        | inl e ↦
+            let left = or-parts all (ltb (rs i .tags x) t) (overtaken-left rs all x t v i ic o e) in
+            let low = ltb-false (rs i .tags x) t (left .1) in
+            let old′ : best L x (A s) ≡ rs i .tags x = rw e at old in
+            rw e (here ∙ (omega arith))
+        | inr ne ↦ here-else (rs i .object) ne ∙ old
+      ])
 
   pub raised-peaks : Peaks g M B (record { servers = upd (S .servers) s r; lanes = Ln })
   raised-peaks = record {
-      peaks = λ k kn y. elim (cases-eq k s) [
-        inl e ↦ rw (e, upd-same (S .servers) s r) (elim (cases-eq y x) [
-            inl q ↦ rw q (here ∙ ap (λ z. max z t) (h .peaks s (rw e at kn) x) ∙ sym (raised x ∙ cond-true (eqb x x) _ _ (eq-eqb x x refl)))
-          | inr ne ↦ here-else y ne ∙ h .peaks s (rw e at kn) y ∙ sym (raised y ∙ cond-false (eqb x y) _ _ (ne-eqb x y (λ q. ne (sym q)))) ])
-      | inr far ↦ rw (upd-other (S .servers) s k r far) (elsewhere k far y ∙ h .peaks k kn y) ]
-    ; asked = λ k i kn ic lv. elim (cases-eq k s) [
-        inl e ↦ rw (e, upd-same (S .servers) s r) (read-left i (rw e at kn) ic (rw (e, upd-same (S .servers) s r) at lv))
-      | inr far ↦ rw (upd-other (S .servers) s k r far) (elsewhere k far _ ∙ h .asked k i kn ic (rw (upd-other (S .servers) s k r far) at lv)) ] }
+    peaks = λ k kn y. elim (cases-eq k s) [
+      | inl e ↦ rw (e, upd-same (S .servers) s r) (elim (cases-eq y x) [
+        | inl q ↦ rw q (here ∙ ap (λ z. max z t) (h .peaks s (rw e at kn) x) ∙ sym (raised x ∙ cond-true (eqb x x) _ _ (eq-eqb x x refl)))
+        | inr ne ↦ here-else y ne ∙ h .peaks s (rw e at kn) y ∙ sym (raised y ∙ cond-false (eqb x y) _ _ (ne-eqb x y (λ q. ne (sym q))))
+      ])
+      | inr far ↦ rw (upd-other (S .servers) s k r far) (elsewhere k far y ∙ h .peaks k kn y)
+    ];
+    asked = λ k i kn ic lv. elim (cases-eq k s) [
+      | inl e ↦ rw (e, upd-same (S .servers) s r) (read-left i (rw e at kn) ic (rw (e, upd-same (S .servers) s r) at lv))
+      | inr far ↦ rw (upd-other (S .servers) s k r far) (elsewhere k far _ ∙ h .asked k i kn ic (rw (upd-other (S .servers) s k r far) at lv))
+    ];
+  }
 
 -- ---- the run, with the log L and what each server has applied
 
@@ -147,24 +122,30 @@ module _ (g : Code) (R : Lawful g) (L : List Entry) (A : ℕ → List ℕ) (S : 
       let p = S .servers s in
       let c = counted p s (p .clock s + 1) (p .top + 1) in
       raised-peaks g L (L ++ e ∷ []) A (λ k. A k ++ cond (eqb s k) (e .tag ∷ []) []) S (h .peaks) s x (e .tag) v true
-        (reading (entered c e) (overtaken (p .reads) true x (e .tag) v)) (spread (S .lanes) s (g .n) (Written x v (p .top + 1) (listed (g .n) (c .clock)))) refl refl refl
-        (λ k far y. ap (best (L ++ e ∷ []) y) (ap (λ b. A k ++ cond b (e .tag ∷ []) []) (ne-eqb s k (λ q. far (sym q))) ∙ append-nil (A k)) ∙ best-log L e y (A k) (apart k))
-        (λ y ne. ap (best (L ++ e ∷ []) y) at-s ∙ best-push (L ++ e ∷ []) y (A s) (e .tag) ∙ cond-false (enters (L ++ e ∷ []) y (e .tag)) _ _ (not-in y ne) ∙ best-log L e y (A s) (apart s))
-        (ap (best (L ++ e ∷ []) x) at-s ∙ best-push (L ++ e ∷ []) x (A s) (e .tag) ∙ cond-true (enters (L ++ e ∷ []) x (e .tag)) _ _ is-in ∙ ap (λ z. max z (e .tag)) (best-log L e x (A s) (apart s)))
+      (reading (entered c e) (overtaken (p .reads) true x (e .tag) v)) (spread (S .lanes) s (g .n) (Written x v (p .top + 1) (listed (g .n) (c .clock)))) refl refl refl
+      (λ k far y. ap (best (L ++ e ∷ []) y) (ap (λ b. A k ++ cond b (e .tag ∷ []) []) (ne-eqb s k (λ q. far (sym q))) ∙ append-nil (A k)) ∙ best-log L e y (A k) (apart k))
+      (λ y ne. ap (best (L ++ e ∷ []) y) at-s ∙ best-push (L ++ e ∷ []) y (A s) (e .tag) ∙ cond-false (enters (L ++ e ∷ []) y (e .tag)) _ _ (not-in y ne) ∙ best-log L e y (A s) (apart s))
+      (ap (best (L ++ e ∷ []) x) at-s ∙ best-push (L ++ e ∷ []) x (A s) (e .tag) ∙ cond-true (enters (L ++ e ∷ []) x (e .tag)) _ _ is-in ∙ ap (λ z. max z (e .tag)) (best-log L e x (A s) (apart s)))
     where
       e : Entry
       e = record { object = x; tag = write-tag g (S .servers s) s; value = v }
+
       sn : s < g .n
       sn = checked-write g S s x v ok .0
+
       at-s : A s ++ cond (eqb s s) (e .tag ∷ []) [] ≡ A s ++ e .tag ∷ []
       at-s = ap (λ b. A s ++ cond b (e .tag ∷ []) []) (eq-eqb s s refl)
+
       apart : (k : ℕ) → All (λ u. u ≡ e .tag → ⊥) (A k)
       apart k = all-weaker (λ u. (u % 6 ≡ s) → u / 6 ≤ S .servers s .top) (λ u. u ≡ e .tag → ⊥)
           (λ u q z. let l = R .few in let below-n = sn in let m : u % 6 ≡ s = omega arith in let w = q m in omega arith) (A k) (h .tops k s sn)
+
       new-for : (y : ℕ) → enters L y (e .tag) ≡ false
       new-for y = new-tag L s (S .servers s .top) y (let l = R .few in let below-n = sn in omega arith) (h .told .tops s sn)
+
       not-in : (y : ℕ) → (y ≡ x → ⊥) → enters (L ++ e ∷ []) y (e .tag) ≡ false
       not-in y ne = enters-push L e y (e .tag) ∙ or-from (enters L y (e .tag)) (same-entry y (e .tag) e) (new-for y) (and-left (eqb x y) (eqb (e .tag) (e .tag)) (ne-eqb x y (λ q. ne (sym q))))
+
       is-in : enters (L ++ e ∷ []) x (e .tag) ≡ true
       is-in = enters-push L e x (e .tag) ∙ or-right (enters L x (e .tag)) (same-entry x (e .tag) e) (and-from (eqb x x) (eqb (e .tag) (e .tag)) (eq-eqb x x refl) (eq-eqb (e .tag) (e .tag) refl))
 
@@ -175,18 +156,21 @@ module _ (g : Code) (R : Lawful g) (L : List Entry) (A : ℕ → List ℕ) (S : 
       let p = S .servers s in
       let t = wait-tag g v in
       raised-peaks g L L A (λ k. A k ++ cond (eqb s k) (t ∷ []) []) S (h .peaks) s (v .object) t (v .value) false
-        (reading (entered (counted (queued p vs) (server (v .tag)) (getD (v .clock) (server (v .tag)) 0) (height (v .tag))) (waited g v)) (overtaken (p .reads) false (v .object) t (v .value))) (S .lanes) refl refl refl
-        (λ k far y. ap (best L y) (ap (λ b. A k ++ cond b (t ∷ []) []) (ne-eqb s k (λ q. far (sym q))) ∙ append-nil (A k)))
-        (λ y ne. ap (best L y) at-s ∙ best-push L y (A s) t ∙ other y ne (enters L y t) refl)
-        (ap (best L (v .object)) at-s ∙ best-push L (v .object) (A s) t ∙ this (enters L (v .object) t) refl)
+      (reading (entered (counted (queued p vs) (server (v .tag)) (getD (v .clock) (server (v .tag)) 0) (height (v .tag))) (waited g v)) (overtaken (p .reads) false (v .object) t (v .value))) (S .lanes) refl refl refl
+      (λ k far y. ap (best L y) (ap (λ b. A k ++ cond b (t ∷ []) []) (ne-eqb s k (λ q. far (sym q))) ∙ append-nil (A k)))
+      (λ y ne. ap (best L y) at-s ∙ best-push L y (A s) t ∙ other y ne (enters L y t) refl)
+      (ap (best L (v .object)) at-s ∙ best-push L (v .object) (A s) t ∙ this (enters L (v .object) t) refl)
     where
       at-s : A s ++ cond (eqb s s) (wait-tag g v ∷ []) [] ≡ A s ++ wait-tag g v ∷ []
       at-s = ap (λ b. A s ++ cond b (wait-tag g v ∷ []) []) (eq-eqb s s refl)
+
       zero-or : (wait-tag g v ≡ 0) ⊎ (enters L (v .object) (wait-tag g v) ≡ true)
       zero-or = ⊎-elim (λ q. inl (eqb-true (wait-tag g v) 0 q)) (λ q. inr q) (or-cases (eqb (wait-tag g v) 0) (enters L (v .object) (wait-tag g v)) (of .0))
+
       other : (y : ℕ) → (y ≡ v .object → ⊥) → (b : Bool) → enters L y (wait-tag g v) ≡ b → cond b (max (best L y (A s)) (wait-tag g v)) (best L y (A s)) ≡ best L y (A s)
       other y ne false q = refl
       other y ne true q = ⊎-elim (λ (z : wait-tag g v ≡ 0). omega arith) (λ z. absurd (ne (h .unique y (v .object) (wait-tag g v) q z))) zero-or
+
       this : (b : Bool) → enters L (v .object) (wait-tag g v) ≡ b → cond b (max (best L (v .object) (A s)) (wait-tag g v)) (best L (v .object) (A s)) ≡ max (best L (v .object) (A s)) (wait-tag g v)
       this true q = refl
       this false q = ⊎-elim (λ (z : wait-tag g v ≡ 0). omega arith) (λ z. absurd (both-ways (enters L (v .object) (wait-tag g v)) q z)) zero-or
@@ -194,8 +178,9 @@ module _ (g : Code) (R : Lawful g) (L : List Entry) (A : ℕ → List ℕ) (S : 
   -- ---- one call
   nil-peaks : (S′ : State) → Peaks g L A S′ → Peaks g (L ++ []) (λ k. A k ++ []) S′
   nil-peaks S′ q = rw (append-nil L) (record {
-      peaks = λ s sn x. ap (best L x) (append-nil (A s)) ∙ q .peaks s sn x
-    ; asked = λ s i sn ic lv. ap (best L (S′ .servers s .reads i .object)) (append-nil (A s)) ∙ q .asked s i sn ic lv })
+    peaks = λ s sn x. ap (best L x) (append-nil (A s)) ∙ q .peaks s sn x;
+    asked = λ s i sn ic lv. ap (best L (S′ .servers s .reads i .object)) (append-nil (A s)) ∙ q .asked s i sn ic lv;
+  })
 
   step-peaks : (c : Call) (f : Found) → Peaks g (L ++ accepted-by c (step g S c f .answer)) (also A c (step g S c f .answer)) (step g S c f .next)
   step-peaks (Write s x v) f = write-cases g S (λ t. Peaks g (L ++ accepted-by (Write s x v) (t .answer)) (also A (Write s x v) (t .answer)) (t .next)) (λ r. nil-peaks S (h .peaks)) s x v (λ ok. write-known s x v ok)
@@ -216,7 +201,7 @@ module _ (g : Code) (R : Lawful g) (L : List Entry) (A : ℕ → List ℕ) (S : 
   step-unique : (c : Call) (f : Found) → Unique (L ++ accepted-by c (step g S c f .answer))
   step-unique (Write s x v) f = write-cases g S (λ t. Unique (L ++ accepted-by (Write s x v) (t .answer))) (λ r. rw (append-nil L) (h .unique)) s x v (λ ok.
       unique-push L (record { object = x; tag = write-tag g (S .servers s) s; value = v }) (h .unique)
-        (λ y. new-tag L s (S .servers s .top) y (let l = R .few in let sn = checked-write g S s x v ok .0 in omega arith) (h .told .tops s (checked-write g S s x v ok .0))))
+      (λ y. new-tag L s (S .servers s .top) y (let l = R .few in let sn = checked-write g S s x v ok .0 in omega arith) (h .told .tops s (checked-write g S s x v ok .0))))
   step-unique (Ask s x l) f = rw (append-nil L) (h .unique)
   step-unique (Collect s m l) f = rw (append-nil L) (h .unique)
   step-unique (Deliver a b) f = rw (append-nil L) (h .unique)
@@ -251,7 +236,7 @@ module _ (g : Code) (R : Lawful g) (L : List Entry) (A : ℕ → List ℕ) (S : 
   step-tops (Apply s) f = apply-cases g S (λ t. Applied-tops g A (t .next) → ((i : ℕ) → S .servers i .top ≤ t .next .servers i .top) → Applied-tops g (also A (Apply s) (t .answer)) (t .next))
       (λ r q up. nil-tops S q) s (λ q up. nil-tops S q)
       (λ b e q up. apply-tops s (b .write) (b .others)
-        ((subst (Chosen g (Of-entry g R L) (Of-tag g R L)) e (picked-all g (Of-entry g R L) (Of-tag g R L) (λ d w. w .0) (λ y. refl) (S .servers s) (S .servers s .waiting) (h .told .sourced .servers s .waiting))) .0) q up)
+      ((subst (Chosen g (Of-entry g R L) (Of-tag g R L)) e (picked-all g (Of-entry g R L) (Of-tag g R L) (λ d w. w .0) (λ y. refl) (S .servers s) (S .servers s .waiting) (h .told .sourced .servers s .waiting))) .0) q up)
       (tops-after (Apply s) f) (rises g S (Apply s) f)
   step-tops (Encode s x) f = nil-tops (step g S (Encode s x) f .next) (tops-after (Encode s x) f)
   step-tops (Sweep s x) f = nil-tops (step g S (Sweep s x) f .next) (tops-after (Sweep s x) f)
@@ -259,36 +244,22 @@ module _ (g : Code) (R : Lawful g) (L : List Entry) (A : ℕ → List ℕ) (S : 
   pub step-known : (m : Steps.Move) → Allowed g S (m .call) (m .found)
       → Known g R (L ++ accepted-by (m .call) (step g S (m .call) (m .found) .answer)) (also A (m .call) (step g S (m .call) (m .found) .answer)) (after g S m)
   step-known m ok = record {
-      told = move-told g R L S (h .told) (m .call) (m .found) ok
-    ; peaks = step-peaks (m .call) (m .found)
-    ; unique = step-unique (m .call) (m .found)
-    ; tops = step-tops (m .call) (m .found) }
-
-pub run-known : (g : Code) (R : Lawful g) (L : List Entry) (A : ℕ → List ℕ) (S : State) (ms : List Steps.Move) → Known g R L A S → Allowed-run g S ms
-    → Known g R (L ++ accepted (events g S ms)) (λ k. A k ++ applied k (events g S ms)) (run g S ms)
-run-known g R L A S [] h ok = subst (λ (B : ℕ → List ℕ). Known g R (L ++ []) B S) (sym (fun-ext (λ k. append-nil (A k)))) (rw (append-nil L) h)
-run-known g R L A S (m ∷ ms) h ok =
-    let c = m .call in
-    let a = step g S (m .call) (m .found) .answer in
-    let es = events g (after g S m) ms in
-    rw (← append-assoc L (accepted-by c a) (accepted es))
-    (subst (λ (B : ℕ → List ℕ). Known g R ((L ++ accepted-by c a) ++ accepted es) B (run g (after g S m) ms)) (fun-ext (λ k. append-assoc (A k) (applies k c a) (applied k es)))
-      (run-known g R (L ++ accepted-by c a) (also A c a) (after g S m) ms (step-known g R L A S h m (ok .0)) (ok .1)))
+    told = move-told g R L S (h .told) (m .call) (m .found) ok;
+    peaks = step-peaks (m .call) (m .found);
+    unique = step-unique (m .call) (m .found);
+    tops = step-tops (m .call) (m .found);
+  }
 
 pub fresh-known : (g : Code) (R : Lawful g) → Known g R [] (λ _. []) (fresh g)
 fresh-known g R = record {
-    told = fresh-told g R
-  ; peaks = record { peaks = λ s sn x. fresh-peak x; asked = λ s i sn ic lv. refl }
-  ; unique = λ x y t a b. absurd (both-ways (enters [] x t) (fresh-enters x t) a)
-  ; tops = λ k s sn. tt }
+  told = fresh-told g R;
+  peaks = record { peaks = λ s sn x. fresh-peak x; asked = λ s i sn ic lv. refl };
+  unique = λ x y t a b. absurd (both-ways (enters [] x t) (fresh-enters x t) a);
+  tops = λ k s sn. tt;
+}
   where
     fresh-enters : (x t : ℕ) → enters [] x t ≡ false
     fresh-enters x t = unfold enters in refl
+
     fresh-peak : (x : ℕ) → 0 ≡ max 0 (top-tag x [])
     fresh-peak x = unfold highest in refl
-
--- a read that is answered at once gives the latest of its object there, in every run
-pub read-always : Read-always
-read-always g R ms ok s x l f allowed v t w e =
-    let h = run-known g R [] (λ _. []) (fresh g) ms (fresh-known g R) ok in
-    read-latest g (accepted (events g (fresh g) ms)) (λ k. applied k (events g (fresh g) ms)) (run g (fresh g) ms) (h .told .stands .fine) (h .peaks) R (h .told .cells) (h .told .sourced) (h .told .valued) s x l f allowed v t w e

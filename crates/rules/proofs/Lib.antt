@@ -5,7 +5,7 @@ pub mod Core
 pub mod RankedWords
 pub mod Ranked
 pub mod RankedSteps
-pub mod RankedLaw
+pub mod RankedFacts
 pub mod Fitting
 pub mod Walks
 pub mod Alter
@@ -44,4 +44,5 @@ pub mod Overtaking
 pub mod Replying
 pub mod FollowSteps
 pub mod Standing
+pub mod Refusing
 pub mod Figures

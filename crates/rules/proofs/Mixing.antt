@@ -1,48 +1,24 @@
 -- A delivery keeps the values right.
 use mathlib.Core.Path.{_≡_, refl, sym, ap, _∙_, subst}
-use mathlib.Core.List.{List, [], _∷_, _++_}
+use mathlib.Core.List.{List, [], _∷_}
 use mathlib.Core.Bool.{Bool, true, false, cond, _&&_, _||_, not}
 use mathlib.Core.Logic.{_⊎_, inl, inr, ⊎-elim}
-use Prim.Native.Nat.{ℕ, zero, suc, _+_, _-_, _<_, _≤_, min, max}
+use Prim.Native.Nat.{ℕ, zero, suc, _-_, _<_, _≤_}
 use native.Mathlib.Omega.{arith}
-use lib.Dec.{eqb, ltb, leb}
-use lib.ListN.{getD, length, drop}
-use Rattle.std.specs.shelf.Lists.{kept-by}
-use Rattle.std.proofs.shelf.Ways.{tells}
-use Rattle.std.proofs.shelf.Tests.{both-ways, cases-bool, cases-eq, cases-order, cases-lt, eq-eqb, ne-eqb, eqb-true, eqb-false, ltb-true, ltb-false, leb-true, leb-false, lt-ltb, and-parts, and-from, and-cases, or-cases, or-parts, or-left, or-right, not-true, not-false, cond-both, cond-true, cond-false}
-use Rattle.rules.proofs.RankedMessages.{Message, Written, Tagged, Question, Plain, Coded, tag}
-use Rattle.rules.proofs.RankedWords.{upd, listed, every, some, seek, lowest, Lanes, posted, spread, taken, free}
-use Rattle.rules.proofs.Core.{Core, heard, Good, Sound, Asked}
-use Rattle.rules.proofs.Ranked.{Code, Entry, Waiting, Read, Server, State, has, holds, enters, same-entry, kept, highest, top-tag, zeros, swap, is-open, core, slots, clients, depth, queue, most-writes, most-reads, most-height, no-read, fresh}
-use Rattle.std.specs.declared.option.Option.{Option}
-use Rattle.std.specs.declared.option.Option.the-variants.{None, Some}
-use Rattle.std.proofs.shelf.Counted.{getD-map-counting}
-use Rattle.rules.proofs.RankedSteps as Steps
-use Rattle.rules.proofs.RankedSteps.{Call, Write, Ask, Collect, Deliver, Apply, Encode, Sweep, Answer, Refused, Tag, Value, Number, Still, Nothing, Outcome, Count, Found, Turn, turn, check, unless, write-refusal, open-refusal, read-refusal, read-found, collect-refusal, collect-at, object-refusal, lane-refusal, put, entered, counted, queued, sifted, reading, tells as hearing, moved, new-read, opening, answered, in-hand, overtaken, Picked, room, history-room, elements, write-tag, write-done, write, open-done, free-slot, open-read, from-history, from-symbol, read, client-slot, collect-done, collect, wait-tag, picked, apply-done, apply-picked, apply, move-done, enter-done, encode-contained, within, encode-other, encode, floor, wanted, stays, settled, swept, sweep-done, sweep, fits, exchanges, states, mixed, reply, question-done, open-slot, take-done, internal-answer, client-answer, settle, mendable, mended, got, oldest, deliver, step, after, run}
-use Rattle.rules.proofs.Words.{upd-same, upd-other, upd-keeps, upd-each, every-at, every-from, some-from, seek-found, lowest-le, enters-push, holds-push, enters-sift, highest-found}
-use Rattle.rules.proofs.Carry.{Carry, good-carry}
-use Rattle.rules.proofs.Take.{Take, take-keeps}
-use Rattle.rules.proofs.Move
-use Rattle.rules.proofs.Move.{move-keeps}
-use Rattle.rules.proofs.Sweep
-use Rattle.rules.proofs.Sweep.{Idle, below, level, sweep-keeps}
-use Rattle.rules.proofs.Replies.{stated, opens, replies, counts, usable, starts}
-use Rattle.rules.proofs.Frames.{Slot, same, fresh-read, Mild, mild-self, spread-from, spread-else, taken-here, taken-else, with-lanes, Fine, fine-put, fine-spread, fine-post, fine-take}
-use mathlib.Core.Path.{ap₂}
+use lib.Dec.{eqb}
+use lib.ListN.{getD}
 use Rattle.std.specs.shelf.Lists.{All}
-use Rattle.std.proofs.shelf.Elements.{all-push, all-drop, all-kept-by, all-weaker}
-use Rattle.std.proofs.shelf.Counted.{length-map-counting, fill-by-all}
-use Rattle.rules.proofs.Core.{Replied}
-use Rattle.rules.proofs.RankedLaw.{mix, Lawful, Decoded, Tested, only, Allowed, Allowed-message}
-use Rattle.rules.proofs.Calls.{unless-both, checked, object-server, object-object, read-server}
-use Rattle.rules.proofs.Deliver.{lane-ends, states-stated, open-found}
-use Rattle.rules.proofs.Source.{Owner, Sent, Sourced}
-use Rattle.rules.proofs.Algebra.{Cells, Mix, mix-tags, swap-mix, mix-same}
-use Rattle.rules.proofs.Calls.{overtaken-open, read-object}
-use Rattle.rules.proofs.Values.{live, Same-read, Still-reads, still-self, Of-entry, Of-tag, Right, Told, Valued, kept-right, lanes-still, put-still, put-valued}
-use Rattle.rules.proofs.Words.{ltb-step, upto, upto-none, upto-all, upto-here, upto-next, upto-else}
-use Rattle.rules.proofs.Valuing.{closed-same, still-same, right-same, decoded-right}
-use Rattle.rules.proofs.Source.{Found-right}
+use Rattle.std.proofs.shelf.Tests.{both-ways, cases-eq, eqb-true, and-parts, and-cases, or-cases, or-left, or-right, not-true, not-false, cond-both, cond-false}
+use Rattle.rules.proofs.RankedMessages.{tag}
+use Rattle.rules.proofs.RankedWords.{upd, listed}
+use Rattle.rules.proofs.Ranked.{Code, Entry, Read, Server, has, holds, enters, same-entry, kept, swap}
+use Rattle.std.proofs.shelf.Counted.{getD-map-counting}
+use Rattle.rules.proofs.RankedSteps.{exchanges, states, mixed, mendable, mended}
+use Rattle.rules.proofs.Words.{upd-same, upd-other, every-at, upto, upto-none, upto-all, upto-here, upto-next, upto-else}
+use Rattle.rules.proofs.RankedFacts.{Lawful}
+use Rattle.rules.proofs.Source.{Owner}
+use Rattle.rules.proofs.Algebra.{Cells, Mix, mix-tags, swap-mix}
+use Rattle.rules.proofs.Values.{Of-entry, Of-tag, kept-right}
 
 no-coefficient : (g : Code) (s y : ℕ) → has g s y ≡ false → g .coefficient s y ≡ 0
 no-coefficient g s y i = eqb-true (g .coefficient s y) 0 (not-false (eqb (g .coefficient s y) 0) i)
@@ -51,8 +27,9 @@ module _ (g : Code) (R : Lawful g) (L : List Entry) (cells : Cells g R L) where
   -- the tags up to y, and then one more
   next-tags : (s y : ℕ) (A B : ℕ → ℕ) (v : List ℕ) (T : ℕ → ℕ) → ((z : ℕ) → (z ≡ y → ⊥) → T z ≡ upto y A B z) → (T y ≡ A y) ⊎ (g .coefficient s y ≡ 0) → Mix g R L s T v → Mix g R L s (upto (suc y) A B) v
   next-tags s y A B v T else here h = mix-tags g R L s T (upto (suc y) A B) v cells (λ z zk. elim (cases-eq z y) [
-      inl e ↦ rw e (⊎-elim (λ q. inl (q ∙ sym (upto-next y A B))) (λ q. inr q) here)
-    | inr ne ↦ inl (else z ne ∙ sym (upto-else y A B z ne)) ]) h
+    | inl e ↦ rw e (⊎-elim (λ q. inl (q ∙ sym (upto-next y A B))) (λ q. inr q) here)
+    | inr ne ↦ inl (else z ne ∙ sym (upto-else y A B z ne))
+  ]) h
 
   -- ---- the symbol of a reply
   module _ (s : ℕ) (p : Server) (T : List ℕ) (sn : s < g .n) (sym-right : Mix g R L s (p .own) (p .symbol)) (hist : All (Of-entry g R L) (p .history)) where
@@ -76,14 +53,14 @@ module _ (g : Code) (R : Lawful g) (L : List Entry) (cells : Cells g R L) where
         let w = states g s p y u in
         let out = swap g s y (kept g (p .history) y (p .own y)) (kept g (p .history) y w) v in
         cond-both (exchanges g s p y u) out v (Mix g R L s (upto (suc y) A (p .own)))
-          (λ e.
-            let a = and-parts (has g s y) (not (eqb u (p .own y)) && holds (p .history) y (p .own y)) e in
-            let b = and-parts (not (eqb u (p .own y))) (holds (p .history) y (p .own y)) (a .1) in
-            next-tags s y A (p .own) out (upd U y w) (λ z ne. upd-other U y z w ne) (inl (upd-same U y w))
-              (swap-mix g R L s y w U (kept g (p .history) y (p .own y)) (kept g (p .history) y w) v cells sn yk
-                (kept-right g R L (p .history) y (p .own y) cells hist (b .1) ∙ ap (kept g L y) (sym (upto-here y A (p .own))))
-                (kept-right g R L (p .history) y w cells hist (states-held y e)) h))
-          (λ e. next-tags s y A (p .own) v U (λ z ne. refl) (inl (upto-here y A (p .own) ∙ sym (states-own y e))) h)
+        (λ e.
+        let a = and-parts (has g s y) (not (eqb u (p .own y)) && holds (p .history) y (p .own y)) e in
+        let b = and-parts (not (eqb u (p .own y))) (holds (p .history) y (p .own y)) (a .1) in
+        next-tags s y A (p .own) out (upd U y w) (λ z ne. upd-other U y z w ne) (inl (upd-same U y w))
+        (swap-mix g R L s y w U (kept g (p .history) y (p .own y)) (kept g (p .history) y w) v cells sn yk
+        (kept-right g R L (p .history) y (p .own y) cells hist (b .1) ∙ ap (kept g L y) (sym (upto-here y A (p .own))))
+        (kept-right g R L (p .history) y w cells hist (states-held y e)) h))
+        (λ e. next-tags s y A (p .own) v U (λ z ne. refl) (inl (upto-here y A (p .own) ∙ sym (states-own y e))) h)
 
     mixed-mix : (y : ℕ) → y ≤ g .k → Mix g R L s (upto y A (p .own)) (mixed g s p T y)
     unfolding mixed
@@ -100,7 +77,7 @@ module _ (g : Code) (R : Lawful g) (L : List Entry) (cells : Cells g R L) where
   unfolding states
   states-of s p y u o asked =
       cond-both (exchanges g s p y u) (cond (holds (p .history) y u) u 0) (p .own y) (Of-tag g R L y)
-        (λ _. cond-both (holds (p .history) y u) u 0 (Of-tag g R L y) asked (λ _. refl)) (λ _. o .own y)
+      (λ _. cond-both (holds (p .history) y u) u 0 (Of-tag g R L y) asked (λ _. refl)) (λ _. o .own y)
 
   -- what a history holds is of the log
   pub held-of : (es : List Entry) (x t : ℕ) → All (Of-entry g R L) es → holds es x t ≡ true → Of-tag g R L x t
@@ -108,7 +85,7 @@ module _ (g : Code) (R : Lawful g) (L : List Entry) (cells : Cells g R L) where
   held-of [] x t all e = ⊎-elim (λ q. or-left (eqb t 0) (enters L x t) q) (λ q. absurd (both-ways false refl q)) (or-cases (eqb t 0) false e)
   held-of (d ∷ es) x t all e = ⊎-elim (λ q. or-left (eqb t 0) (enters L x t) q)
       (λ q. ⊎-elim (λ w. let p = and-parts (eqb (d .object) x) (eqb (d .tag) t) w in subst (λ z. holds L x z ≡ true) (eqb-true (d .tag) t (p .1)) (subst (λ z. holds L z (d .tag) ≡ true) (eqb-true (d .object) x (p .0)) (all .0 .0)))
-          (λ w. held-of es x t (all .1) (or-right (eqb t 0) (enters es x t) w)) (or-cases (same-entry x t d) (enters es x t) q))
+      (λ w. held-of es x t (all .1) (or-right (eqb t 0) (enters es x t) w)) (or-cases (same-entry x t d) (enters es x t) q))
       (or-cases (eqb t 0) (same-entry x t d || enters es x t) e)
 
   -- ---- the symbol of a reply, mended for a read
@@ -128,23 +105,23 @@ module _ (g : Code) (R : Lawful g) (L : List Entry) (cells : Cells g R L) where
         let test : Bool = not (has g a y) || (eqb (getD st y 0) (r .tags y) || (holds (p .history) y (getD st y 0) && holds (p .history) y (r .tags y))) in
         let ok : test ≡ true = every-at (g .k) (λ y. not (has g a y) || (eqb (getD st y 0) (r .tags y) || (holds (p .history) y (getD st y 0) && holds (p .history) y (r .tags y)))) mend y (omega arith) in
         cond-both (has g a y && not (eqb (getD st y 0) (r .tags y))) (swap g a y old new w) w (Mix g R L a (upto (suc y) (r .tags) B))
-          (λ e.
-            let q = and-parts (has g a y) (not (eqb (getD st y 0) (r .tags y))) e in
-            let both = held-both y (q .0) (not-true (eqb (getD st y 0) (r .tags y)) (q .1)) ok in
-            next-tags a y (r .tags) B (swap g a y old new w) (upd U y (r .tags y)) (λ z ne. upd-other U y z (r .tags y) ne) (inl (upd-same U y (r .tags y)))
-              (swap-mix g R L a y (r .tags y) U old new w cells an (omega arith)
-                (kept-right g R L (p .history) y (getD st y 0) cells hist (both .0) ∙ ap (kept g L y) (sym (upto-here y (r .tags) B)))
-                (kept-right g R L (p .history) y (r .tags y) cells hist (both .1)) ih))
-          (λ e. next-tags a y (r .tags) B w U (λ z ne. refl)
-            (⊎-elim (λ q. inr (no-coefficient g a y q)) (λ q. inl (upto-here y (r .tags) B ∙ eqb-true (getD st y 0) (r .tags y) (not-false (eqb (getD st y 0) (r .tags y)) q)))
-              (and-cases (has g a y) (not (eqb (getD st y 0) (r .tags y))) e)) ih)
+        (λ e.
+        let q = and-parts (has g a y) (not (eqb (getD st y 0) (r .tags y))) e in
+        let both = held-both y (q .0) (not-true (eqb (getD st y 0) (r .tags y)) (q .1)) ok in
+        next-tags a y (r .tags) B (swap g a y old new w) (upd U y (r .tags y)) (λ z ne. upd-other U y z (r .tags y) ne) (inl (upd-same U y (r .tags y)))
+        (swap-mix g R L a y (r .tags y) U old new w cells an (omega arith)
+        (kept-right g R L (p .history) y (getD st y 0) cells hist (both .0) ∙ ap (kept g L y) (sym (upto-here y (r .tags) B)))
+        (kept-right g R L (p .history) y (r .tags y) cells hist (both .1)) ih))
+        (λ e. next-tags a y (r .tags) B w U (λ z ne. refl)
+        (⊎-elim (λ q. inr (no-coefficient g a y q)) (λ q. inl (upto-here y (r .tags) B ∙ eqb-true (getD st y 0) (r .tags y) (not-false (eqb (getD st y 0) (r .tags y)) q)))
+        (and-cases (has g a y) (not (eqb (getD st y 0) (r .tags y))) e)) ih)
       where
         held-both : (y : ℕ) → has g a y ≡ true → eqb (getD st y 0) (r .tags y) ≡ false
             → (not (has g a y) || (eqb (getD st y 0) (r .tags y) || (holds (p .history) y (getD st y 0) && holds (p .history) y (r .tags y)))) ≡ true
             → (holds (p .history) y (getD st y 0) ≡ true) × (holds (p .history) y (r .tags y) ≡ true)
         held-both y i ne ok = ⊎-elim (λ q. absurd (both-ways (has g a y) (not-true (has g a y) q) i))
             (λ q. ⊎-elim (λ z. absurd (both-ways (eqb (getD st y 0) (r .tags y)) ne z)) (λ z. and-parts (holds (p .history) y (getD st y 0)) (holds (p .history) y (r .tags y)) z)
-              (or-cases (eqb (getD st y 0) (r .tags y)) (holds (p .history) y (getD st y 0) && holds (p .history) y (r .tags y)) q))
+            (or-cases (eqb (getD st y 0) (r .tags y)) (holds (p .history) y (getD st y 0) && holds (p .history) y (r .tags y)) q))
             (or-cases (not (has g a y)) (eqb (getD st y 0) (r .tags y) || (holds (p .history) y (getD st y 0) && holds (p .history) y (r .tags y))) ok)
 
     pub mended-right : Mix g R L a (r .tags) (mended g p a r v st (g .k))

@@ -1,28 +1,27 @@
 -- Each write under way or waiting is one of its server's writes; clocks and notices over each call.
-use mathlib.Core.Path.{_≡_, refl, sym, ap, ap₂, _∙_, subst, fun-ext}
+use mathlib.Core.Path.{_≡_, refl, sym, ap, _∙_, subst, fun-ext}
 use mathlib.Core.List.{List, [], _∷_, _++_, append-nil}
-use mathlib.Core.Bool.{Bool, true, false, cond, _&&_, _||_, not}
-use mathlib.Core.Logic.{_⊎_, inl, inr, ⊎-elim}
-use Prim.Native.Nat.{ℕ, zero, suc, _+_, _*_, _/_, _%_, _<_, _≤_}
+use mathlib.Core.Bool.{Bool, true, cond, _&&_, not}
+use mathlib.Core.Logic.{inl, inr}
+use Prim.Native.Nat.{ℕ, suc, _+_, _/_, _%_, _<_, _≤_}
 use native.Mathlib.Omega.{arith}
 use lib.Dec.{eqb, ltb, leb}
 use lib.ListN.{getD, length, take, drop}
-use Rattle.std.specs.shelf.Lists.{All, Has}
+use Rattle.std.specs.shelf.Lists.{All}
 use Rattle.std.specs.declared.option.Option.{Option}
 use Rattle.std.specs.declared.option.Option.the-variants.{None, Some}
-use Rattle.std.proofs.shelf.Tests.{cases-eq, cond-both, cond-true, cond-false, eq-eqb, ne-eqb, eqb-true, ltb-true, leb-true, and-parts}
+use Rattle.std.proofs.shelf.Tests.{cases-eq, cond-both, cond-true, cond-false, eq-eqb, ne-eqb, eqb-true, leb-true, and-parts}
 use Rattle.std.proofs.shelf.Elements.{all-push, all-drop, all-take, all-append, all-getD, all-weaker, all-has}
 use Rattle.std.proofs.shelf.Counted.{getD-map-counting}
-use Rattle.rules.specs.Words.{upd, every}
+use Rattle.rules.specs.Words.{upd}
 use Rattle.rules.specs.Turns.{Call, Write, Read as Ask, Collect, Deliver, Apply, Encode, Sweep, Found}
-use Rattle.rules.specs.Runs.{Move}
 use Rattle.rules.proofs.RankedMessages.{Message, Written, Tagged, Question, Plain, Coded, tag, server}
 use Rattle.rules.proofs.RankedWords.{listed, spread, posted, taken, Lanes}
-use Rattle.rules.proofs.Ranked.{Code, Entry, Waiting, Read, Server, State, holds, kept, no-read, clients, swap, fresh}
+use Rattle.rules.proofs.Ranked.{Code, Entry, Waiting, Server, State, holds, kept, no-read, clients, fresh}
 use Rattle.rules.proofs.RankedSteps as Steps
-use Rattle.rules.proofs.RankedSteps.{Answer, Refused, Tag, Value, Number, Still, Nothing, Outcome, Count, Turn, turn, Picked, entered, counted, queued, sifted, reading, moved, opening, overtaken, write-tag, write-refusal, write-done, apply-done, open-done, collect-done, move-done, enter-done, sweep-done, take-done, question-done, reply, mixed, states, next-ready, picked, wait-tag, step, free-slot}
-use Rattle.rules.proofs.RankedLaw.{Lawful, applies}
-use Rattle.rules.proofs.Words.{upd-same, upd-other, upd-each, upd-keeps, every-at}
+use Rattle.rules.proofs.RankedSteps.{Answer, Refused, Tag, Value, Number, Still, Nothing, Outcome, Count, Turn, turn, Picked, entered, counted, queued, sifted, reading, moved, opening, write-tag, write-refusal, write-done, apply-done, open-done, collect-done, move-done, enter-done, sweep-done, take-done, question-done, reply, mixed, states, next-ready, picked, wait-tag, step, free-slot}
+use Rattle.rules.proofs.RankedFacts.{Lawful, applies}
+use Rattle.rules.proofs.Words.{upd-same, upd-other, upd-keeps, every-at}
 use Rattle.rules.proofs.Source.{next-picks, Picks}
 use Rattle.rules.proofs.Cases.{write-cases, apply-cases-at, read-cases, collect-cases, sweep-cases, encode-cases, deliver-cases, Receives, Queues, as-before, joins}
 use Rattle.rules.proofs.Coded.{checked-write}
@@ -52,10 +51,13 @@ pub record Notices (n : ℕ) (W : Writes) (S : State) : Type 0 where
 
 noted-longer : (n : ℕ) (W X : Writes) → Longer W X → (w : Waiting) → Noted n W w → Noted n X w
 noted-longer n W X l w h = record {
-    is-server = h .is-server; place = h .place; count = h .count
-  ; among = let m = l .more (server (w .tag)) in let q = h .among in omega arith
-  ; tag = ap (λ (z : Made). z .tag) (l .same (server (w .tag)) (h .place) (h .among)) ∙ h .tag
-  ; clock = ap (λ (z : Made). z .clock) (l .same (server (w .tag)) (h .place) (h .among)) ∙ h .clock }
+  is-server = h .is-server;
+  place = h .place;
+  count = h .count;
+  among = let m = l .more (server (w .tag)) in let q = h .among in omega arith;
+  tag = ap (λ (z : Made). z .tag) (l .same (server (w .tag)) (h .place) (h .among)) ∙ h .tag;
+  clock = ap (λ (z : Made). z .clock) (l .same (server (w .tag)) (h .place) (h .among)) ∙ h .clock;
+}
 
 noticed-longer : (n : ℕ) (W X : Writes) → Longer W X → (a : ℕ) (m : Message) → Noticed n W a m → Noticed n X a m
 noticed-longer n W X l a (Written x v h ck) q = noted-longer n W X l (record { object = x; tag = tag h a; value = v; clock = ck }) q
@@ -66,8 +68,9 @@ noticed-longer n W X l a (Coded m v st) q = tt
 
 pub notices-longer : (n : ℕ) (W X : Writes) → Longer W X → (S : State) → Notices n W S → Notices n X S
 notices-longer n W X l S h = record {
-    waiting = λ s. all-weaker (Noted n W) (Noted n X) (noted-longer n W X l) (S .servers s .waiting) (h .waiting s)
-  ; lanes = λ a b. all-weaker (Noticed n W a) (Noticed n X a) (noticed-longer n W X l a) (S .lanes a b) (h .lanes a b) }
+  waiting = λ s. all-weaker (Noted n W) (Noted n X) (noted-longer n W X l) (S .servers s .waiting) (h .waiting s);
+  lanes = λ a b. all-weaker (Noticed n W a) (Noticed n X a) (noticed-longer n W X l a) (S .lanes a b) (h .lanes a b);
+}
 
 -- ---- calls that leave clocks and notices
 
@@ -83,10 +86,12 @@ module _ (g : Code) (W : Writes) (S : State) (h : Notices (g .n) W S) where
   put-quiet : (a : Answer) (s : ℕ) (r : Server) (Ln : Lanes) → r .clock ≡ S .servers s .clock → All (Noted (g .n) W) (r .waiting) → ((a b : ℕ) → All (Noticed (g .n) W a) (Ln a b))
       → Kept (turn a (record { servers = upd (S .servers) s r; lanes = Ln }))
   put-quiet a s r Ln c w l = record {
-      clocks = λ k. upd-keeps (λ (q : Server). q .clock) (S .servers) s k r c
-    ; notices = record {
-        waiting = λ k. elim (cases-eq k s) [ inl e ↦ rw (e, upd-same (S .servers) s r) w | inr ne ↦ rw (upd-other (S .servers) s k r ne) (h .waiting k) ]
-      ; lanes = l } }
+    clocks = λ k. upd-keeps (λ (q : Server). q .clock) (S .servers) s k r c;
+    notices = record {
+      waiting = λ k. elim (cases-eq k s) [ inl e ↦ rw (e, upd-same (S .servers) s r) w | inr ne ↦ rw (upd-other (S .servers) s k r ne) (h .waiting k) ];
+      lanes = l;
+    };
+  }
 
   same-quiet : (a : Answer) → Kept (turn a S)
   same-quiet a = record { clocks = λ s. refl; notices = h }
@@ -137,11 +142,13 @@ module _ (g : Code) (W : Writes) (S : State) (h : Notices (g .n) W S) where
       let z = reply g b p m x T in
       let new : Noticed (g .n) W b z = cond-both (holds (p .history) x (getD T x 0)) (Plain m (kept g (p .history) x (getD T x 0))) (Coded m (mixed g b p T (g .k)) (listed (g .k) (λ y. states g b p y (getD T y 0)))) (Noticed (g .n) W b) (λ _. tt) (λ _. tt) in
       record {
-        clocks = λ s. refl
-      ; notices = record {
-          waiting = h .waiting
-        ; lanes = λ i j. cond-both (eqb i b && eqb j a) (taken (S .lanes) a b i j ++ z ∷ []) (taken (S .lanes) a b i j) (All (Noticed (g .n) W i))
-            (λ e. all-push (Noticed (g .n) W i) (taken (S .lanes) a b i j) z (taken-quiet a b i j) (rw (eqb-true i b (and-parts (eqb i b) (eqb j a) e .0)) new)) (λ _. taken-quiet a b i j) } }
+        clocks = λ s. refl;
+        notices = record {
+          waiting = h .waiting;
+          lanes = λ i j. cond-both (eqb i b && eqb j a) (taken (S .lanes) a b i j ++ z ∷ []) (taken (S .lanes) a b i j) (All (Noticed (g .n) W i))
+              (λ e. all-push (Noticed (g .n) W i) (taken (S .lanes) a b i j) z (taken-quiet a b i j) (rw (eqb-true i b (and-parts (eqb i b) (eqb j a) e .0)) new)) (λ _. taken-quiet a b i j);
+        };
+      }
 
   read-quiet : (s x l : ℕ) (f : Found) → Kept (Steps.read g S s x l f)
   read-quiet s x l f = read-cases g S Kept (λ r. same-quiet (Refused r)) s x l f (λ _ _ _. same-quiet _) (λ _ _ _ _. same-quiet _) (λ _ _ _ _ _. open-quiet _ s (free-slot g (S .servers s)) x)
@@ -176,9 +183,10 @@ picked-takes g W p b all = from (next-ready g p (p .waiting) (length (p .waiting
         let k : Picked = record { write = Steps.write-at l i; others = take i l ++ drop (suc i) l } in
         let z : k ≡ b = cc in
         subst (Takes (g .n) W (Steps.ready g p)) z (record {
-            noted = all-getD (Noted (g .n) W) l i Steps.no-write (pk .below) all
-          ; others = all-append (Noted (g .n) W) (take i l) (drop (suc i) l) (all-take (Noted (g .n) W) i l all) (all-drop (Noted (g .n) W) (suc i) l all)
-          ; ready-now = pk .ready })
+          noted = all-getD (Noted (g .n) W) l i Steps.no-write (pk .below) all;
+          others = all-append (Noted (g .n) W) (take i l) (drop (suc i) l) (all-take (Noted (g .n) W) i l all) (all-drop (Noted (g .n) W) (suc i) l all);
+          ready-now = pk .ready;
+        })
 
 -- ---- clocks, applied tags and notices over each call
 
@@ -217,12 +225,15 @@ module _ (g : Code) (R : Lawful g) (L : List Entry) (A : ℕ → List ℕ) (S : 
 
   quiet-traced : (c : Call) (f : Found) → ((k : ℕ) → applies k c (step g S c f .answer) ≡ []) → Quiet (g .n) W S (step g S c f) → Traced g W (also A c (step g S c f .answer)) (step g S c f .next)
   quiet-traced c f none q = record {
-      counts = counts-same (g .n) W A (also A c (step g S c f .answer)) (clocks S) (clocks (step g S c f .next)) (λ k. ap (λ l. A k ++ l) (none k) ∙ append-nil (A k)) (λ s j. ap (λ (z : ℕ → ℕ). z j) (q .clocks s)) (h .counts)
-    ; notices = q .notices }
+    counts = counts-same (g .n) W A (also A c (step g S c f .answer)) (clocks S) (clocks (step g S c f .next)) (λ k. ap (λ l. A k ++ l) (none k) ∙ append-nil (A k)) (λ s j. ap (λ (z : ℕ → ℕ). z j) (q .clocks s)) (h .counts);
+    notices = q .notices;
+  }
 
   stays-traced : (S′ : State) → S′ ≡ S → Traced g W (λ k. A k ++ []) S′
   stays-traced S′ e = subst (Traced g W (λ k. A k ++ [])) (sym e) (record {
-      counts = counts-same (g .n) W A (λ k. A k ++ []) (clocks S) (clocks S) (λ k. append-nil (A k)) (λ s j. refl) (h .counts); notices = h .notices })
+    counts = counts-same (g .n) W A (λ k. A k ++ []) (clocks S) (clocks S) (λ k. append-nil (A k)) (λ s j. refl) (h .counts);
+    notices = h .notices;
+  })
 
   -- ---- write
   module _ (s x : ℕ) (v : List ℕ) (ok : write-refusal g S s x v ≡ 0) where
@@ -275,27 +286,30 @@ module _ (g : Code) (R : Lawful g) (L : List Entry) (A : ℕ → List ℕ) (S : 
 
     noted : Noted (g .n) (pushed W s M) (record { object = x; tag = tag (S .servers s .top + 1) s; value = v; clock = listed (g .n) (upd (S .servers s .clock) s (S .servers s .clock s + 1)) })
     noted = record {
-        is-server = rw tag-server sn
-      ; place = length (W s)
-      ; count = rw tag-server (clock-cell s sn ∙ upd-same (S .servers s .clock) s (S .servers s .clock s + 1) ∙ (let o = h .counts .own s sn in omega arith))
-      ; among = rw (tag-server, pushed-here W s M) (let l = length-push (W s) M in omega arith)
-      ; tag = rw (tag-server, pushed-here W s M) (ap (λ (z : Made). z .tag) (getD-push (W s) M no-made (length (W s)) refl))
-      ; clock = rw (tag-server, pushed-here W s M) (ap (λ (z : Made). z .clock) (getD-push (W s) M no-made (length (W s)) refl)) }
+      is-server = rw tag-server sn;
+      place = length (W s);
+      count = rw tag-server (clock-cell s sn ∙ upd-same (S .servers s .clock) s (S .servers s .clock s + 1) ∙ (let o = h .counts .own s sn in omega arith));
+      among = rw (tag-server, pushed-here W s M) (let l = length-push (W s) M in omega arith);
+      tag = rw (tag-server, pushed-here W s M) (ap (λ (z : Made). z .tag) (getD-push (W s) M no-made (length (W s)) refl));
+      clock = rw (tag-server, pushed-here W s M) (ap (λ (z : Made). z .clock) (getD-push (W s) M no-made (length (W s)) refl));
+    }
 
     pub write-traced : Traced g (pushed W s M) (λ k. A k ++ cond (eqb s k) (t ∷ []) []) (write-done g S s x v)
     write-traced = record {
-        counts = counts-write (g .n) W A (λ k. A k ++ cond (eqb s k) (t ∷ []) []) (clocks S) (clocks (write-done g S s x v)) (h .counts) s sn M
+      counts = counts-write (g .n) W A (λ k. A k ++ cond (eqb s k) (t ∷ []) []) (clocks S) (clocks (write-done g S s x v)) (h .counts) s sn M
           (ap (λ (z : ℕ → ℕ). z s) clock-here ∙ upd-same (S .servers s .clock) s (S .servers s .clock s + 1) ∙ (omega arith))
           (λ i ne. ap (λ (z : ℕ → ℕ). z i) clock-here ∙ upd-other (S .servers s .clock) s i (S .servers s .clock s + 1) ne)
           (λ k ne i. ap (λ (z : ℕ → ℕ). z i) (clock-far k ne))
           (λ i inn. clock-cell i inn ∙ sym (ap (λ (z : ℕ → ℕ). z i) clock-here)) refl (let l = s6 in omega arith) new
           (ap (λ b. A s ++ cond b (t ∷ []) []) (eq-eqb s s refl))
-          (λ k ne. ap (λ b. A k ++ cond b (t ∷ []) []) (ne-eqb s k (λ q. ne (sym q))) ∙ append-nil (A k))
-      ; notices =
+          (λ k ne. ap (λ b. A k ++ cond b (t ∷ []) []) (ne-eqb s k (λ q. ne (sym q))) ∙ append-nil (A k));
+      notices =
           let old = notices-longer (g .n) W (pushed W s M) (pushed-longer W s M) S (h .notices) in
           record {
-            waiting = λ k. subst (All (Noted (g .n) (pushed W s M))) (sym (waiting-same k)) (old .waiting k)
-          ; lanes = λ a b. subst (λ (z : Lanes). All (Noticed (g .n) (pushed W s M) a) (z a b)) (sym lanes-after) (spread-quiet g (pushed W s M) S old s _ noted a b) } }
+            waiting = λ k. subst (All (Noted (g .n) (pushed W s M))) (sym (waiting-same k)) (old .waiting k);
+            lanes = λ a b. subst (λ (z : Lanes). All (Noticed (g .n) (pushed W s M) a) (z a b)) (sym lanes-after) (spread-quiet g (pushed W s M) S old s _ noted a b);
+          };
+    }
 
   -- ---- apply
   module _ (s : ℕ) (sn : s < g .n) (b : Picked) (e : picked g (S .servers s) (S .servers s .waiting) ≡ Some b) where
@@ -319,8 +333,9 @@ module _ (g : Code) (R : Lawful g) (L : List Entry) (A : ℕ → List ℕ) (S : 
     waiting-after : (k : ℕ) → All (Noted (g .n) W) (apply-done g S s (b .write) (b .others) .servers k .waiting)
     unfolding apply-done reading entered counted queued
     waiting-after k = elim (cases-eq k s) [
-        inl q ↦ rw (q, upd-same (S .servers) s _) (picked-takes g W (S .servers s) b (h .notices .waiting s) e .others)
-      | inr ne ↦ rw (upd-other (S .servers) s k _ ne) (h .notices .waiting k) ]
+      | inl q ↦ rw (q, upd-same (S .servers) s _) (picked-takes g W (S .servers s) b (h .notices .waiting s) e .others)
+      | inr ne ↦ rw (upd-other (S .servers) s k _ ne) (h .notices .waiting k)
+    ]
 
     lanes-same : apply-done g S s (b .write) (b .others) .lanes ≡ S .lanes
     unfolding apply-done
@@ -350,14 +365,16 @@ module _ (g : Code) (R : Lawful g) (L : List Entry) (A : ℕ → List ℕ) (S : 
         let nd = picked-takes g W (S .servers s) b (h .notices .waiting s) e .noted in
         record {
           counts = counts-apply (g .n) W A (λ k. A k ++ cond (eqb s k) (w .tag ∷ []) []) (clocks S) (clocks (apply-done g S s (b .write) (b .others))) (h .counts) s a m sn an (nd .among)
-            (let q = is-next in let c = nd .count in omega arith) here else
-            (λ k ne i. ap (λ (z : ℕ → ℕ). z i) (clock-far′ k ne))
-            (λ i inn. subst (λ ck. getD ck i 0 ≤ clocks (apply-done g S s (b .write) (b .others)) s i) (sym (nd .clock)) (elim (cases-eq i a) [
-                inl q ↦ rw q (let x = here in let y = nd .count in omega arith)
-              | inr ne ↦ (let x = else i ne in let y = not-above i inn ne in omega arith) ]))
-            (ap (λ c. A s ++ cond c (w .tag ∷ []) []) (eq-eqb s s refl) ∙ ap (λ u. A s ++ u ∷ []) (sym (nd .tag)))
-            (λ k ne. ap (λ c. A k ++ cond c (w .tag ∷ []) []) (ne-eqb s k (λ q. ne (sym q))) ∙ append-nil (A k))
-        ; notices = record { waiting = waiting-after; lanes = λ i j. subst (λ (z : Lanes). All (Noticed (g .n) W i) (z i j)) (sym lanes-same) (h .notices .lanes i j) } }
+              (let q = is-next in let c = nd .count in omega arith) here else
+              (λ k ne i. ap (λ (z : ℕ → ℕ). z i) (clock-far′ k ne))
+              (λ i inn. subst (λ ck. getD ck i 0 ≤ clocks (apply-done g S s (b .write) (b .others)) s i) (sym (nd .clock)) (elim (cases-eq i a) [
+                | inl q ↦ rw q (let x = here in let y = nd .count in omega arith)
+                | inr ne ↦ (let x = else i ne in let y = not-above i inn ne in omega arith)
+              ]))
+              (ap (λ c. A s ++ cond c (w .tag ∷ []) []) (eq-eqb s s refl) ∙ ap (λ u. A s ++ u ∷ []) (sym (nd .tag)))
+              (λ k ne. ap (λ c. A k ++ cond c (w .tag ∷ []) []) (ne-eqb s k (λ q. ne (sym q))) ∙ append-nil (A k));
+          notices = record { waiting = waiting-after; lanes = λ i j. subst (λ (z : Lanes). All (Noticed (g .n) W i) (z i j)) (sym lanes-same) (h .notices .lanes i j) };
+        }
 
   -- ---- each call
   pub step-traced : (c : Call) (f : Found) → Traced g (made-by c (step g S c f .answer)) (also A c (step g S c f .answer)) (step g S c f .next)
@@ -371,8 +388,16 @@ module _ (g : Code) (R : Lawful g) (L : List Entry) (A : ℕ → List ℕ) (S : 
 
 pub fresh-traced : (g : Code) → Traced g (λ _. []) (λ _. []) (fresh g)
 fresh-traced g = record {
-    counts = record {
-        own = λ j jn. refl; most = λ s j sn jn. omega arith; reached = λ s u sn p. absurd (let l = p .1 in omega arith); applied = λ s j m sn jn lt. absurd (omega arith)
-      ; counted = λ j m jn lt. absurd (omega arith); server = λ j m jn lt. absurd (omega arith); once = λ j m k jn lt. absurd (omega arith)
-      ; before = λ j m u jn lt. absurd (omega arith); brings = λ s j m sn jn lt. absurd (omega arith) }
-  ; notices = record { waiting = λ s. tt; lanes = λ a b. tt } }
+  counts = record {
+    own = λ j jn. refl;
+    most = λ s j sn jn. omega arith;
+    reached = λ s u sn p. absurd (let l = p .1 in omega arith);
+    applied = λ s j m sn jn lt. absurd (omega arith);
+    counted = λ j m jn lt. absurd (omega arith);
+    server = λ j m jn lt. absurd (omega arith);
+    once = λ j m k jn lt. absurd (omega arith);
+    before = λ j m u jn lt. absurd (omega arith);
+    brings = λ s j m sn jn lt. absurd (omega arith);
+  };
+  notices = record { waiting = λ s. tt; lanes = λ a b. tt };
+}

@@ -1,12 +1,11 @@
 -- What each server has applied, by counts of each server's writes in order: a write brings what its server had applied before it.
-use mathlib.Core.Path.{_≡_, refl, sym, ap, ap₂, _∙_, subst}
+use mathlib.Core.Path.{_≡_, refl, sym, ap, _∙_, subst}
 use mathlib.Core.List.{List, [], _∷_, _++_}
-use mathlib.Core.Bool.{Bool, true, false, cond}
 use mathlib.Core.Logic.{_⊎_, inl, inr, ⊎-elim}
-use Prim.Native.Nat.{ℕ, zero, suc, _+_, _%_, _/_, _<_, _≤_}
+use Prim.Native.Nat.{ℕ, suc, _+_, _%_, _<_, _≤_}
 use native.Mathlib.Omega.{arith}
 use lib.ListN.{getD, length}
-use Rattle.std.specs.shelf.Lists.{All, Has}
+use Rattle.std.specs.shelf.Lists.{Has}
 use Rattle.std.proofs.shelf.Tests.{cases-eq, cases-lt}
 use Rattle.std.proofs.shelf.Lists.{getD-append-left, getD-push, length-push}
 use Rattle.std.proofs.shelf.Elements.{has-append-left, has-push, has-push-cases}
@@ -74,23 +73,28 @@ pushed-among W s M = rw (pushed-here W s M) (let l = length-push (W s) M in omeg
 
 pub pushed-longer : (W : Writes) (s : ℕ) (M : Made) → Longer W (pushed W s M)
 pushed-longer W s M = record {
-    more = λ j. elim (cases-eq j s) [ inl e ↦ rw (e, pushed-here W s M) (let l = length-push (W s) M in omega arith) | inr ne ↦ rw (upd-other W s j (W s ++ M ∷ []) ne) (omega arith) ]
-  ; same = λ j m lt. elim (cases-eq j s) [
-      inl e ↦ let lt′ : m < length (W s) = rw e at lt in rw (e, pushed-here W s M) (getD-append-left (W s) (M ∷ []) no-made m lt′)
-    | inr ne ↦ ap (λ l. getD l m no-made) (upd-other W s j (W s ++ M ∷ []) ne) ] }
+  more = λ j. elim (cases-eq j s) [ inl e ↦ rw (e, pushed-here W s M) (let l = length-push (W s) M in omega arith) | inr ne ↦ rw (upd-other W s j (W s ++ M ∷ []) ne) (omega arith) ];
+  same = λ j m lt. elim (cases-eq j s) [
+    | inl e ↦ let lt′ : m < length (W s) = rw e at lt in rw (e, pushed-here W s M) (getD-append-left (W s) (M ∷ []) no-made m lt′)
+    | inr ne ↦ ap (λ l. getD l m no-made) (upd-other W s j (W s ++ M ∷ []) ne)
+  ];
+}
 
 pub reached-longer : (n : ℕ) (W X : Writes) (b c : ℕ → ℕ) (u : ℕ) → Longer W X → ((i : ℕ) → i < n → b i ≤ c i) → Reached n W b u → Reached n X c u
 reached-longer n W X b c u h le r = record {
-    writer = r .writer; place = r .place; is-server = r .is-server
-  ; below = let l = le (r .writer) (r .is-server) in let q = r .below in omega arith
-  ; among = let l = h .more (r .writer) in let q = r .among in omega arith
-  ; tag = ap (λ (z : Made). z .tag) (h .same (r .writer) (r .place) (r .among)) ∙ r .tag }
+  writer = r .writer;
+  place = r .place;
+  is-server = r .is-server;
+  below = let l = le (r .writer) (r .is-server) in let q = r .below in omega arith;
+  among = let l = h .more (r .writer) in let q = r .among in omega arith;
+  tag = ap (λ (z : Made). z .tag) (h .same (r .writer) (r .place) (r .among)) ∙ r .tag;
+}
 
 module _ (n : ℕ) (W : Writes) (A B : ℕ → List ℕ) (C D : ℕ → ℕ → ℕ) (h : Counts n W A C) (s : ℕ) (sn : s < n) (M : Made)
-         (here : D s s ≡ suc (C s s)) (else : (i : ℕ) → (i ≡ s → ⊥) → D s i ≡ C s i) (far : (k : ℕ) → (k ≡ s → ⊥) → (i : ℕ) → D k i ≡ C k i)
-         (clock : (i : ℕ) → i < n → getD (M .clock) i 0 ≡ D s i) (past : M .past ≡ A s) (of-s : M .tag % 6 ≡ s)
-         (new : (m : ℕ) → m < length (W s) → nth W s m .tag ≡ M .tag → ⊥)
-         (more : B s ≡ A s ++ M .tag ∷ []) (rest : (k : ℕ) → (k ≡ s → ⊥) → B k ≡ A k) where
+    (here : D s s ≡ suc (C s s)) (else : (i : ℕ) → (i ≡ s → ⊥) → D s i ≡ C s i) (far : (k : ℕ) → (k ≡ s → ⊥) → (i : ℕ) → D k i ≡ C k i)
+    (clock : (i : ℕ) → i < n → getD (M .clock) i 0 ≡ D s i) (past : M .past ≡ A s) (of-s : M .tag % 6 ≡ s)
+    (new : (m : ℕ) → m < length (W s) → nth W s m .tag ≡ M .tag → ⊥)
+    (more : B s ≡ A s ++ M .tag ∷ []) (rest : (k : ℕ) → (k ≡ s → ⊥) → B k ≡ A k) where
   X : Writes
   X = pushed W s M
 
@@ -112,8 +116,9 @@ module _ (n : ℕ) (W : Writes) (A B : ℕ → List ℕ) (C D : ℕ → ℕ → 
 
   grows : (k i : ℕ) → C k i ≤ D k i
   grows k i = elim (cases-eq k s) [
-      inl e ↦ rw e (elim (cases-eq i s) [ inl q ↦ rw q (let l = here in omega arith) | inr ne ↦ (let l = else i ne in omega arith) ])
-    | inr ne ↦ let l = far k ne i in omega arith ]
+    | inl e ↦ rw e (elim (cases-eq i s) [ inl q ↦ rw q (let l = here in omega arith) | inr ne ↦ (let l = else i ne in omega arith) ])
+    | inr ne ↦ let l = far k ne i in omega arith
+  ]
 
   -- a place of X is one of W, or the last
   data Place (j m : ℕ) : Type 0 where
@@ -122,10 +127,12 @@ module _ (n : ℕ) (W : Writes) (A B : ℕ → List ℕ) (C D : ℕ → ℕ → 
 
   place : (j m : ℕ) → m < length (X j) → Place j m
   place j m lt = elim (cases-eq j s) [
-      inl e ↦ let lt′ : m < length (X s) = rw e at lt in elim (cases-lt m (length (W s))) [
-          inl l ↦ old (rw e l)
-        | inr l ↦ last-one e (let q = length-here in omega arith) ]
-    | inr ne ↦ old (let q = length-else j ne in omega arith) ]
+    | inl e ↦ let lt′ : m < length (X s) = rw e at lt in elim (cases-lt m (length (W s))) [
+      | inl l ↦ old (rw e l)
+      | inr l ↦ last-one e (let q = length-here in omega arith)
+    ]
+    | inr ne ↦ old (let q = length-else j ne in omega arith)
+  ]
 
   -- a count of D is one of C, or the last of s at s
   data Count (k j m : ℕ) : Type 0 where
@@ -134,12 +141,15 @@ module _ (n : ℕ) (W : Writes) (A B : ℕ → List ℕ) (C D : ℕ → ℕ → 
 
   count : (k j m : ℕ) → k < n → j < n → m < D k j → Count k j m
   count k j m kn jn lt = elim (cases-eq k s) [
-      inl e ↦ elim (cases-eq j s) [
-          inl q ↦ let lt′ : m < D s s = rw (e, q) at lt in elim (cases-lt m (C s s)) [
-              inl l ↦ old-count (rw (e, q) l)
-            | inr l ↦ last-count e q (let z = here in let o = h .own s sn in omega arith) ]
-        | inr ne ↦ let lt′ : m < D s j = rw e at lt in old-count (rw e (let z = else j ne in omega arith)) ]
-    | inr ne ↦ old-count (let z = far k ne j in omega arith) ]
+    | inl e ↦ elim (cases-eq j s) [
+      | inl q ↦ let lt′ : m < D s s = rw (e, q) at lt in elim (cases-lt m (C s s)) [
+        | inl l ↦ old-count (rw (e, q) l)
+        | inr l ↦ last-count e q (let z = here in let o = h .own s sn in omega arith)
+      ]
+      | inr ne ↦ let lt′ : m < D s j = rw e at lt in old-count (rw e (let z = else j ne in omega arith))
+    ]
+    | inr ne ↦ old-count (let z = far k ne j in omega arith)
+  ]
 
   old-tag : (j m : ℕ) → m < length (W j) → nth X j m .tag ≡ nth W j m .tag
   old-tag j m lt = ap (λ (z : Made). z .tag) (L .same j m lt)
@@ -169,22 +179,24 @@ module _ (n : ℕ) (W : Writes) (A B : ℕ → List ℕ) (C D : ℕ → ℕ → 
       (reached-longer n W X _ _ u L (λ i inn. omega arith) (h .before j m u jn lt (subst (λ (z : Made). Has (z .past) u) (L .same j m lt) p)))
   before-at j m u jn (last-one e q) p = subst (λ (z : Made). Reached n X (λ i. getD (z .clock) i 0) u) (sym (tag-last j m e q))
       (reached-longer n W X (C s) (λ i. getD (M .clock) i 0) u L (λ i inn. let a = clock i inn in let b = grows s i in omega arith)
-        (h .reached s u sn (subst (λ l. Has l u) past (subst (λ (z : Made). Has (z .past) u) (tag-last j m e q) p))))
+      (h .reached s u sn (subst (λ l. Has l u) past (subst (λ (z : Made). Has (z .past) u) (tag-last j m e q) p))))
 
   reached-at : (k u : ℕ) → k < n → Has (B k) u → Reached n X (D k) u
   reached-at k u kn p = elim (cases-eq k s) [
-      inl e ↦ rw e (⊎-elim (λ q. reached-longer n W X (C s) (D s) u L (λ i _. grows s i) (h .reached s u sn q))
-          (λ q. record { writer = s; place = length (W s); is-server = sn; below = let a = here in let b = h .own s sn in omega arith; among = let l = length-here in omega arith; tag = ap (λ (z : Made). z .tag) last ∙ q })
-          (has-push-cases (A s) (M .tag) u (subst (λ l. Has l u) more (subst (λ i. Has (B i) u) e p))))
-    | inr ne ↦ reached-longer n W X (C k) (D k) u L (λ i _. grows k i) (h .reached k u kn (subst (λ l. Has l u) (rest k ne) p)) ]
+    | inl e ↦ rw e (⊎-elim (λ q. reached-longer n W X (C s) (D s) u L (λ i _. grows s i) (h .reached s u sn q))
+        (λ q. record { writer = s; place = length (W s); is-server = sn; below = let a = here in let b = h .own s sn in omega arith; among = let l = length-here in omega arith; tag = ap (λ (z : Made). z .tag) last ∙ q })
+        (has-push-cases (A s) (M .tag) u (subst (λ l. Has l u) more (subst (λ i. Has (B i) u) e p))))
+    | inr ne ↦ reached-longer n W X (C k) (D k) u L (λ i _. grows k i) (h .reached k u kn (subst (λ l. Has l u) (rest k ne) p))
+  ]
 
   applied-at : (k j m : ℕ) → k < n → j < n → Count k j m → Has (B k) (nth X j m .tag)
   applied-at k j m kn jn (old-count lt) =
       let lw : m < length (W j) = let a = h .most k j kn jn in omega arith in
       let q : Has (A k) (nth X j m .tag) = subst (Has (A k)) (sym (old-tag j m lw)) (h .applied k j m kn jn lt) in
       elim (cases-eq k s) [
-        inl e ↦ let q′ : Has (A s) (nth X j m .tag) = rw e at q in rw (e, more) (has-append-left (A s) (M .tag ∷ []) (nth X j m .tag) q′)
-      | inr ne ↦ rw (rest k ne) q ]
+        | inl e ↦ let q′ : Has (A s) (nth X j m .tag) = rw e at q in rw (e, more) (has-append-left (A s) (M .tag ∷ []) (nth X j m .tag) q′)
+        | inr ne ↦ rw (rest k ne) q
+      ]
   applied-at k j m kn jn (last-count e p q) = subst (λ i. Has (B i) (nth X j m .tag)) (sym e) (subst (λ (z : Made). Has (B s) (z .tag)) (sym (tag-last j m p q)) (subst (λ l. Has l (M .tag)) (sym more) (has-push (A s) (M .tag))))
 
   brings-at : (k j m : ℕ) → k < n → j < n → Count k j m → (i : ℕ) → i < n → getD (nth X j m .clock) i 0 ≤ D k i
@@ -202,35 +214,40 @@ module _ (n : ℕ) (W : Writes) (A B : ℕ → List ℕ) (C D : ℕ → ℕ → 
   pub counts-write : Counts n (pushed W s M) B D
   unfolding X
   counts-write = record {
-      own = λ j jn. elim (cases-eq j s) [
-          inl e ↦ rw e (length-here ∙ (let a = h .own s sn in let b = here in omega arith))
-        | inr ne ↦ length-else j ne ∙ h .own j jn ∙ sym (far j ne j) ]
-    ; most = λ k j kn jn. elim (cases-eq k s) [
-          inl e ↦ rw e (elim (cases-eq j s) [
-              inl q ↦ rw q (let a = length-here in let b = h .own s sn in let c = here in omega arith)
-            | inr ne ↦ (let a = length-else j ne in let b = h .most s j sn jn in let c = else j ne in omega arith) ])
-        | inr ne ↦ let a = far k ne j in let b = h .most k j kn jn in let c = L .more j in omega arith ]
-    ; reached = reached-at
-    ; applied = λ k j m kn jn lt. applied-at k j m kn jn (count k j m kn jn lt)
-    ; counted = λ j m jn lt. counted-at j m jn (place j m lt)
-    ; server = λ j m jn lt. server-at j m jn (place j m lt)
-    ; once = λ j m k jn a b. once-at j m k jn (place j m a) (place j k b)
-    ; before = λ j m u jn lt. before-at j m u jn (place j m lt)
-    ; brings = λ k j m kn jn lt. brings-at k j m kn jn (count k j m kn jn lt) }
+    own = λ j jn. elim (cases-eq j s) [
+      | inl e ↦ rw e (length-here ∙ (let a = h .own s sn in let b = here in omega arith))
+      | inr ne ↦ length-else j ne ∙ h .own j jn ∙ sym (far j ne j)
+    ];
+    most = λ k j kn jn. elim (cases-eq k s) [
+      | inl e ↦ rw e (elim (cases-eq j s) [
+        | inl q ↦ rw q (let a = length-here in let b = h .own s sn in let c = here in omega arith)
+        | inr ne ↦ (let a = length-else j ne in let b = h .most s j sn jn in let c = else j ne in omega arith)
+      ])
+      | inr ne ↦ let a = far k ne j in let b = h .most k j kn jn in let c = L .more j in omega arith
+    ];
+    reached = reached-at;
+    applied = λ k j m kn jn lt. applied-at k j m kn jn (count k j m kn jn lt);
+    counted = λ j m jn lt. counted-at j m jn (place j m lt);
+    server = λ j m jn lt. server-at j m jn (place j m lt);
+    once = λ j m k jn a b. once-at j m k jn (place j m a) (place j k b);
+    before = λ j m u jn lt. before-at j m u jn (place j m lt);
+    brings = λ k j m kn jn lt. brings-at k j m kn jn (count k j m kn jn lt);
+  }
 
 -- ---- a write of another server is applied
 
 module _ (n : ℕ) (W : Writes) (A B : ℕ → List ℕ) (C D : ℕ → ℕ → ℕ) (h : Counts n W A C) (s a m : ℕ) (sn : s < n) (an : a < n) (lm : m < length (W a))
-         (next : C s a ≡ m) (here : D s a ≡ suc m) (else : (i : ℕ) → (i ≡ a → ⊥) → D s i ≡ C s i) (far : (k : ℕ) → (k ≡ s → ⊥) → (i : ℕ) → D k i ≡ C k i)
-         (clock : (i : ℕ) → i < n → getD (nth W a m .clock) i 0 ≤ D s i)
-         (more : B s ≡ A s ++ nth W a m .tag ∷ []) (rest : (k : ℕ) → (k ≡ s → ⊥) → B k ≡ A k) where
+    (next : C s a ≡ m) (here : D s a ≡ suc m) (else : (i : ℕ) → (i ≡ a → ⊥) → D s i ≡ C s i) (far : (k : ℕ) → (k ≡ s → ⊥) → (i : ℕ) → D k i ≡ C k i)
+    (clock : (i : ℕ) → i < n → getD (nth W a m .clock) i 0 ≤ D s i)
+    (more : B s ≡ A s ++ nth W a m .tag ∷ []) (rest : (k : ℕ) → (k ≡ s → ⊥) → B k ≡ A k) where
   other : s ≡ a → ⊥
   other e = let o = h .own s sn in let q : length (W a) ≡ C s a = subst (λ i. length (W i) ≡ C s i) e o in omega arith
 
   up : (k i : ℕ) → C k i ≤ D k i
   up k i = elim (cases-eq k s) [
-      inl e ↦ rw e (elim (cases-eq i a) [ inl q ↦ rw q (omega arith) | inr ne ↦ (let l = else i ne in omega arith) ])
-    | inr ne ↦ let l = far k ne i in omega arith ]
+    | inl e ↦ rw e (elim (cases-eq i a) [ inl q ↦ rw q (omega arith) | inr ne ↦ (let l = else i ne in omega arith) ])
+    | inr ne ↦ let l = far k ne i in omega arith
+  ]
 
   data Seen (k j p : ℕ) : Type 0 where
     old-seen : p < C k j → Seen k j p
@@ -238,19 +255,23 @@ module _ (n : ℕ) (W : Writes) (A B : ℕ → List ℕ) (C D : ℕ → ℕ → 
 
   seen : (k j p : ℕ) → p < D k j → Seen k j p
   seen k j p lt = elim (cases-eq k s) [
-      inl e ↦ elim (cases-eq j a) [
-          inl q ↦ let lt′ : p < D s a = rw (e, q) at lt in elim (cases-lt p m) [
-              inl l ↦ old-seen (rw (e, q) (omega arith))
-            | inr l ↦ last-seen e q (omega arith) ]
-        | inr ne ↦ let lt′ : p < D s j = rw e at lt in old-seen (rw e (let z = else j ne in omega arith)) ]
-    | inr ne ↦ old-seen (let z = far k ne j in omega arith) ]
+    | inl e ↦ elim (cases-eq j a) [
+      | inl q ↦ let lt′ : p < D s a = rw (e, q) at lt in elim (cases-lt p m) [
+        | inl l ↦ old-seen (rw (e, q) (omega arith))
+        | inr l ↦ last-seen e q (omega arith)
+      ]
+      | inr ne ↦ let lt′ : p < D s j = rw e at lt in old-seen (rw e (let z = else j ne in omega arith))
+    ]
+    | inr ne ↦ old-seen (let z = far k ne j in omega arith)
+  ]
 
   applied-seen : (k j p : ℕ) → k < n → j < n → Seen k j p → Has (B k) (nth W j p .tag)
   applied-seen k j p kn jn (old-seen lt) =
       let q = h .applied k j p kn jn lt in
       elim (cases-eq k s) [
-        inl e ↦ let q′ : Has (A s) (nth W j p .tag) = rw e at q in rw (e, more) (has-append-left (A s) (nth W a m .tag ∷ []) (nth W j p .tag) q′)
-      | inr ne ↦ rw (rest k ne) q ]
+        | inl e ↦ let q′ : Has (A s) (nth W j p .tag) = rw e at q in rw (e, more) (has-append-left (A s) (nth W a m .tag ∷ []) (nth W j p .tag) q′)
+        | inr ne ↦ rw (rest k ne) q
+      ]
   applied-seen k j p kn jn (last-seen e q r) = rw (e, q, r) (subst (λ l. Has l (nth W a m .tag)) (sym more) (has-push (A s) (nth W a m .tag)))
 
   brings-seen : (k j p : ℕ) → k < n → j < n → Seen k j p → (i : ℕ) → i < n → getD (nth W j p .clock) i 0 ≤ D k i
@@ -259,23 +280,27 @@ module _ (n : ℕ) (W : Writes) (A B : ℕ → List ℕ) (C D : ℕ → ℕ → 
 
   pub counts-apply : Counts n W B D
   counts-apply = record {
-      own = λ j jn. elim (cases-eq j s) [
-          inl e ↦ rw e (h .own s sn ∙ sym (else s other))
-        | inr ne ↦ h .own j jn ∙ sym (far j ne j) ]
-    ; most = λ k j kn jn. elim (cases-eq k s) [
-          inl e ↦ rw e (elim (cases-eq j a) [ inl q ↦ rw q (omega arith) | inr ne ↦ (let x = else j ne in let y = h .most s j sn jn in omega arith) ])
-        | inr ne ↦ let x = far k ne j in let y = h .most k j kn jn in omega arith ]
-    ; reached = λ k u kn p. elim (cases-eq k s) [
-          inl e ↦ rw e (⊎-elim (λ q. reached-longer n W W (C s) (D s) u (record { more = λ j. omega arith; same = λ j p lt. refl }) (λ i _. up s i) (h .reached s u sn q))
-              (λ q. record { writer = a; place = m; is-server = an; below = omega arith; among = lm; tag = q })
-              (has-push-cases (A s) (nth W a m .tag) u (subst (λ l. Has l u) more (subst (λ i. Has (B i) u) e p))))
-        | inr ne ↦ reached-longer n W W (C k) (D k) u (record { more = λ j. omega arith; same = λ j p lt. refl }) (λ i _. up k i) (h .reached k u kn (subst (λ l. Has l u) (rest k ne) p)) ]
-    ; applied = λ k j p kn jn lt. applied-seen k j p kn jn (seen k j p lt)
-    ; counted = h .counted
-    ; server = h .server
-    ; once = h .once
-    ; before = h .before
-    ; brings = λ k j p kn jn lt. brings-seen k j p kn jn (seen k j p lt) }
+    own = λ j jn. elim (cases-eq j s) [
+      | inl e ↦ rw e (h .own s sn ∙ sym (else s other))
+      | inr ne ↦ h .own j jn ∙ sym (far j ne j)
+    ];
+    most = λ k j kn jn. elim (cases-eq k s) [
+      | inl e ↦ rw e (elim (cases-eq j a) [ inl q ↦ rw q (omega arith) | inr ne ↦ (let x = else j ne in let y = h .most s j sn jn in omega arith) ])
+      | inr ne ↦ let x = far k ne j in let y = h .most k j kn jn in omega arith
+    ];
+    reached = λ k u kn p. elim (cases-eq k s) [
+      | inl e ↦ rw e (⊎-elim (λ q. reached-longer n W W (C s) (D s) u (record { more = λ j. omega arith; same = λ j p lt. refl }) (λ i _. up s i) (h .reached s u sn q))
+          (λ q. record { writer = a; place = m; is-server = an; below = omega arith; among = lm; tag = q })
+          (has-push-cases (A s) (nth W a m .tag) u (subst (λ l. Has l u) more (subst (λ i. Has (B i) u) e p))))
+      | inr ne ↦ reached-longer n W W (C k) (D k) u (record { more = λ j. omega arith; same = λ j p lt. refl }) (λ i _. up k i) (h .reached k u kn (subst (λ l. Has l u) (rest k ne) p))
+    ];
+    applied = λ k j p kn jn lt. applied-seen k j p kn jn (seen k j p lt);
+    counted = h .counted;
+    server = h .server;
+    once = h .once;
+    before = h .before;
+    brings = λ k j p kn jn lt. brings-seen k j p kn jn (seen k j p lt);
+  }
 
 -- ---- a write brings its past
 

@@ -1,53 +1,27 @@
 -- The highest applied tag of an object is the own tag or the highest held one; an open client read has it as its tag.
-use mathlib.Core.Path.{_≡_, refl, sym, ap, _∙_, subst}
+use mathlib.Core.Path.{_≡_, refl, sym, ap, _∙_, ap₂}
 use mathlib.Core.List.{List, [], _∷_, _++_}
-use mathlib.Core.Bool.{Bool, true, false, cond, _&&_, _||_, not}
+use mathlib.Core.Bool.{Bool, true, false, cond, _&&_, _||_}
 use mathlib.Core.Logic.{_⊎_, inl, inr, ⊎-elim}
-use Prim.Native.Nat.{ℕ, zero, suc, _+_, _-_, _<_, _≤_, min, max}
+use Prim.Native.Nat.{ℕ, _+_, _-_, _<_, _≤_, max}
 use native.Mathlib.Omega.{arith}
-use lib.Dec.{eqb, ltb, leb}
-use lib.ListN.{getD, length, drop}
-use Rattle.std.specs.shelf.Lists.{kept-by}
-use Rattle.std.proofs.shelf.Ways.{tells}
-use Rattle.std.proofs.shelf.Tests.{and-right, both-ways, cases-bool, cases-eq, cases-order, cases-lt, eq-eqb, ne-eqb, eqb-true, eqb-false, ltb-true, ltb-false, leb-true, leb-false, lt-ltb, and-parts, and-from, and-cases, or-cases, or-parts, or-left, or-right, not-true, not-false, cond-both, cond-true, cond-false}
-use Rattle.rules.proofs.RankedMessages.{Message, Written, Tagged, Question, Plain, Coded, tag}
-use Rattle.rules.proofs.RankedWords.{upd, listed, every, some, seek, lowest, Lanes, posted, spread, taken, free}
-use Rattle.rules.proofs.Core.{Core, heard, Good, Sound, Asked}
-use Rattle.rules.proofs.Ranked.{Code, Entry, Waiting, Read, Server, State, has, holds, enters, same-entry, kept, highest, top-tag, zeros, swap, is-open, core, slots, clients, depth, queue, most-writes, most-reads, most-height, no-read, fresh}
-use Rattle.std.specs.declared.option.Option.{Option}
-use Rattle.std.specs.declared.option.Option.the-variants.{None, Some}
-use Rattle.std.proofs.shelf.Counted.{getD-map-counting}
-use Rattle.rules.proofs.RankedSteps as Steps
-use Rattle.rules.proofs.RankedSteps.{Call, Write, Ask, Collect, Deliver, Apply, Encode, Sweep, Answer, Refused, Tag, Value, Number, Still, Nothing, Outcome, Count, Found, Turn, turn, check, unless, write-refusal, open-refusal, read-refusal, read-found, collect-refusal, collect-at, object-refusal, lane-refusal, put, entered, counted, queued, sifted, reading, tells as hearing, moved, new-read, opening, answered, in-hand, overtaken, Picked, room, history-room, elements, write-tag, write-done, write, open-done, free-slot, open-read, from-history, from-symbol, read, client-slot, collect-done, collect, wait-tag, picked, apply-done, apply-picked, apply, move-done, enter-done, encode-contained, within, encode-other, encode, floor, wanted, stays, settled, swept, sweep-done, sweep, fits, states, mixed, reply, question-done, open-slot, take-done, internal-answer, client-answer, settle, mendable, mended, got, oldest, deliver, step, after, run}
-use Rattle.rules.proofs.Words.{upd-same, upd-other, upd-keeps, upd-each, every-at, every-from, some-from, seek-found, lowest-le, enters-push, holds-push, enters-sift, highest-found}
-use Rattle.rules.proofs.Carry.{Carry, good-carry}
-use Rattle.rules.proofs.Take.{Take, take-keeps}
-use Rattle.rules.proofs.Move
-use Rattle.rules.proofs.Move.{move-keeps}
-use Rattle.rules.proofs.Sweep
-use Rattle.rules.proofs.Sweep.{Idle, below, level, sweep-keeps}
-use Rattle.rules.proofs.Replies.{stated, opens, replies, counts, usable, starts}
-use Rattle.rules.proofs.Frames.{Slot, same, fresh-read, Mild, mild-self, spread-from, spread-else, taken-here, taken-else, with-lanes, Fine, fine-put, fine-spread, fine-post, fine-take}
-use mathlib.Core.Path.{ap₂}
+use lib.Dec.{eqb, ltb}
 use Rattle.std.specs.shelf.Lists.{All}
-use Rattle.std.proofs.shelf.Elements.{all-push, all-drop, all-kept-by, all-weaker}
-use Rattle.std.proofs.shelf.Counted.{length-map-counting, fill-by-all}
-use Rattle.rules.proofs.Core.{Replied}
-use Rattle.rules.proofs.RankedLaw.{mix, Lawful, Decoded, Tested, only, Allowed, Allowed-message}
-use Rattle.rules.proofs.Calls.{unless-both, checked, object-server, object-object, read-server}
-use Rattle.rules.proofs.Deliver.{lane-ends, states-stated, open-found, mends}
-use Rattle.rules.proofs.Source.{Owner, Sent, Sourced}
-use Rattle.rules.proofs.Algebra.{Cells, Mix, mix-tags, swap-mix, mix-same}
-use Rattle.rules.proofs.Calls.{overtaken-open, read-object}
-use Rattle.rules.proofs.Values.{live, Same-read, Still-reads, still-self, Of-entry, Of-tag, Right, Told, Valued, kept-right, lanes-still, put-still, put-valued}
-use Rattle.rules.proofs.Words.{ltb-step, upto, upto-none, upto-all, upto-here, upto-next, upto-else}
-use Rattle.rules.proofs.Valuing.{closed-same, still-same, right-same, decoded-right}
-use Rattle.rules.proofs.Source.{Found-right}
-use Rattle.rules.proofs.Mixing.{reply-right, states-of, held-of, mended-right}
-use Rattle.rules.proofs.RankedLaw.{best}
+use Rattle.std.proofs.shelf.Tests.{and-right, both-ways, cases-bool, cases-eq, eq-eqb, ne-eqb, eqb-true, lt-ltb, and-parts, and-from, and-cases, or-left, or-right, cond-both}
+use Rattle.rules.proofs.RankedMessages.{Message, tag}
+use Rattle.rules.proofs.RankedWords.{upd, Lanes}
+use Rattle.rules.proofs.Ranked.{Code, Entry, Read, Server, State, has, holds, enters, kept, top-tag, is-open, core, slots, clients, no-read}
+use Rattle.rules.proofs.RankedSteps.{Value, Found, Turn, entered, sifted, reading, moved, new-read, opening, answered, overtaken, open-done, free-slot, read, collect-done, collect, move-done, enter-done, encode, swept, sweep-done, sweep, reply, question-done, take-done, deliver}
+use Rattle.rules.proofs.Words.{upd-same, upd-other, enters-push, top-push, top-bound, top-found}
+use Rattle.rules.proofs.Sweep.{Idle, below, level}
+use Rattle.rules.proofs.Frames.{same, Fine}
+use Rattle.rules.proofs.RankedFacts.{Lawful, Tested, only, best}
 use Rattle.rules.proofs.Calls.{sweep-idle, sweep-no-new}
-use Rattle.rules.proofs.Words.{top-push, top-bound, top-found}
-use Rattle.rules.proofs.Cases.{write-cases, apply-cases, read-cases, collect-cases, sweep-cases, encode-cases, deliver-cases, Entering, as-was, answer-of, Receives}
+use Rattle.rules.proofs.Source.{Sourced}
+use Rattle.rules.proofs.Algebra.{Cells}
+use Rattle.rules.proofs.Values.{live, Of-entry, Of-tag, Valued, kept-right}
+use Rattle.rules.proofs.Valuing.{closed-same, decoded-right}
+use Rattle.rules.proofs.Cases.{read-cases, collect-cases, sweep-cases, encode-cases, deliver-cases, Entering, as-was, answer-of, Receives}
 
 -- the highest tag of x that a server owns or holds
 abbrev pub peak : Server → ℕ → ℕ
@@ -57,14 +31,15 @@ peak p x = max (p .own x) (top-tag x (p .history))
 pub best-push : (L : List Entry) (x : ℕ) (A : List ℕ) (t : ℕ) → best L x (A ++ t ∷ []) ≡ cond (enters L x t) (max (best L x A) t) (best L x A)
 best-push L x [] t = elim (cases-bool (enters L x t)) [ inl q ↦ rw q (omega arith) | inr q ↦ rw q ]
 best-push L x (u ∷ A) t = elim (cases-bool (enters L x u)) [
-    inl q ↦ rw q (ap (max u) (best-push L x A t) ∙ elim (cases-bool (enters L x t)) [ inl w ↦ rw w (omega arith) | inr w ↦ rw w ])
-  | inr q ↦ rw q (best-push L x A t) ]
+  | inl q ↦ rw q (ap (max u) (best-push L x A t) ∙ elim (cases-bool (enters L x t)) [ inl w ↦ rw w (omega arith) | inr w ↦ rw w ])
+  | inr q ↦ rw q (best-push L x A t)
+]
 
 pub best-log : (L : List Entry) (e : Entry) (x : ℕ) (A : List ℕ) → All (λ u. u ≡ e .tag → ⊥) A → best (L ++ e ∷ []) x A ≡ best L x A
 best-log L e x [] h = refl
 best-log L e x (u ∷ A) h =
     let same : enters (L ++ e ∷ []) x u ≡ enters L x u =
-          enters-push L e x u ∙ ap (λ b. enters L x u || b) (and-right (eqb (e .object) x) (eqb (e .tag) u) (ne-eqb (e .tag) u (λ q. h .0 (sym q)))) ∙ or-none (enters L x u) in
+    enters-push L e x u ∙ ap (λ b. enters L x u || b) (and-right (eqb (e .object) x) (eqb (e .tag) u) (ne-eqb (e .tag) u (λ q. h .0 (sym q)))) ∙ or-none (enters L x u) in
     rw same (ap (λ b. cond (enters L x u) (max u b) b) (best-log L e x A (h .1)))
   where
     or-none : (b : Bool) → (b || false) ≡ b
@@ -78,11 +53,10 @@ overtaken-left rs all x t v i ic = cond-both (ltb i clients && (is-open (rs i) &
     (λ r. is-open r ≡ true → rs i .object ≡ x → (all || ltb (rs i .tags x) t) ≡ false)
     (λ _ e. absurd (both-ways false refl e))
     (λ q o e. ⊎-elim (λ w. absurd (both-ways (ltb i clients) w (lt-ltb i clients ic)))
-        (λ w. ⊎-elim (λ z. absurd (both-ways (is-open (rs i)) z o))
-          (λ z. ⊎-elim (λ y. absurd (both-ways (eqb (rs i .object) x) y (eq-eqb (rs i .object) x e))) (λ y. y) (and-cases (eqb (rs i .object) x) (all || ltb (rs i .tags x) t) z))
-          (and-cases (is-open (rs i)) (eqb (rs i .object) x && (all || ltb (rs i .tags x) t)) w))
-        (and-cases (ltb i clients) (is-open (rs i) && (eqb (rs i .object) x && (all || ltb (rs i .tags x) t))) q))
-
+    (λ w. ⊎-elim (λ z. absurd (both-ways (is-open (rs i)) z o))
+    (λ z. ⊎-elim (λ y. absurd (both-ways (eqb (rs i .object) x) y (eq-eqb (rs i .object) x e))) (λ y. y) (and-cases (eqb (rs i .object) x) (all || ltb (rs i .tags x) t) z))
+    (and-cases (is-open (rs i)) (eqb (rs i .object) x && (all || ltb (rs i .tags x) t)) w))
+    (and-cases (ltb i clients) (is-open (rs i) && (eqb (rs i .object) x && (all || ltb (rs i .tags x) t))) q))
 
 module _ (g : Code) where
   pub record Peaks (L : List Entry) (A : ℕ → List ℕ) (S : State) : Type 0 where
@@ -97,12 +71,15 @@ module _ (g : Code) where
     put-peaks : (s : ℕ) (r : Server) (Ln : Lanes) → ((x : ℕ) → peak r x ≡ peak (S .servers s) x)
         → ((i : ℕ) → i < clients → live r i ≡ true → (s < g .n) → best L (r .reads i .object) (A s) ≡ r .reads i .tags (r .reads i .object)) → Peaks L A (record { servers = upd (S .servers) s r; lanes = Ln })
     put-peaks s r Ln even reads = record {
-        peaks = λ k kn x. elim (cases-eq k s) [
-          inl e ↦ rw (e, upd-same (S .servers) s r) (h .peaks s (rw e at kn) x ∙ sym (even x))
-        | inr ne ↦ rw (upd-other (S .servers) s k r ne) (h .peaks k kn x) ]
-      ; asked = λ k i kn ic lv. elim (cases-eq k s) [
-          inl e ↦ rw (e, upd-same (S .servers) s r) (reads i ic (rw (e, upd-same (S .servers) s r) at lv) (rw e at kn))
-        | inr ne ↦ rw (upd-other (S .servers) s k r ne) (h .asked k i kn ic (rw (upd-other (S .servers) s k r ne) at lv)) ] }
+      peaks = λ k kn x. elim (cases-eq k s) [
+        | inl e ↦ rw (e, upd-same (S .servers) s r) (h .peaks s (rw e at kn) x ∙ sym (even x))
+        | inr ne ↦ rw (upd-other (S .servers) s k r ne) (h .peaks k kn x)
+      ];
+      asked = λ k i kn ic lv. elim (cases-eq k s) [
+        | inl e ↦ rw (e, upd-same (S .servers) s r) (reads i ic (rw (e, upd-same (S .servers) s r) at lv) (rw e at kn))
+        | inr ne ↦ rw (upd-other (S .servers) s k r ne) (h .asked k i kn ic (rw (upd-other (S .servers) s k r ne) at lv))
+      ];
+    }
 
     -- reads as they were
     reads-same : (s : ℕ) (r : Server) → ((i : ℕ) → live r i ≡ true → r .reads i ≡ S .servers s .reads i) → (i : ℕ) → i < clients → live r i ≡ true → (s < g .n) → best L (r .reads i .object) (A s) ≡ r .reads i .tags (r .reads i .object)
@@ -112,8 +89,9 @@ module _ (g : Code) where
 
     entered-peak : (p : Server) (e : Entry) → e .tag ≤ p .own (e .object) → (x : ℕ) → max (p .own x) (top-tag x (p .history ++ e ∷ [])) ≡ peak p x
     entered-peak p e le x = rw (top-push x (p .history) e) (elim (cases-bool (eqb (e .object) x)) [
-        inl q ↦ let w = eqb-true (e .object) x q in let l : e .tag ≤ p .own x = rw w at le in rw q (omega arith)
-      | inr q ↦ rw q ])
+      | inl q ↦ let w = eqb-true (e .object) x q in let l : e .tag ≤ p .own x = rw w at le in rw q (omega arith)
+      | inr q ↦ rw q
+    ])
 
     open-peaks : (s i x : ℕ) → (i < clients → (s < g .n) × (top-tag x (S .servers s .history) < S .servers s .own x)) → Peaks L A (open-done g S s i x)
     unfolding open-done opening
@@ -121,8 +99,9 @@ module _ (g : Code) where
         let p = S .servers s in
         let nr = new-read p s x in
         put-peaks s (opening p s i x) _ (λ y. refl) (λ j jc lv sn. elim (cases-eq j i) [
-          inl e ↦ rw (e, upd-same (p .reads) i nr) (h .peaks s sn x ∙ (let l = low (rw e at jc) in let t = l .1 in omega arith))
-        | inr ne ↦ let u = upd-other (p .reads) i j nr ne in rw u (h .asked s j sn jc (rw u at lv)) ])
+          | inl e ↦ rw (e, upd-same (p .reads) i nr) (h .peaks s sn x ∙ (let l = low (rw e at jc) in let t = l .1 in omega arith))
+          | inr ne ↦ let u = upd-other (p .reads) i j nr ne in rw u (h .asked s j sn jc (rw u at lv))
+        ])
 
     pub read-peaks : (s x l : ℕ) (d : Found) → Kept (read g S s x l d)
     read-peaks s x l d = read-cases g S Kept (λ r. h) s x l d (λ _ _ _. h) (λ _ _ _ _. h) (λ sn xk lt _ _. open-peaks s (free-slot g (S .servers s)) x (λ _. (sn, lt)))
@@ -140,9 +119,10 @@ module _ (g : Code) where
         let p = S .servers s in
         let b = top-bound x t (p .history) e in
         put-peaks s (moved p s x t v) _ (λ y. elim (cases-eq y x) [
-            inl q ↦ rw (q, upd-same (p .own) x t) (omega arith)
-          | inr ne ↦ rw (upd-other (p .own) x y t ne) refl ])
-          (reads-same s (moved p s x t v) (λ i w. refl))
+          | inl q ↦ rw (q, upd-same (p .own) x t) (omega arith)
+          | inr ne ↦ rw (upd-other (p .own) x y t ne) refl
+        ])
+        (reads-same s (moved p s x t v) (λ i w. refl))
 
     enter-peaks : (s x : ℕ) (v : List ℕ) → Peaks L A (enter-done g S s (record { object = x; tag = S .servers s .own x; value = v }))
     unfolding enter-done entered
@@ -166,7 +146,7 @@ module _ (g : Code) where
         let old = top-tag y (p .history) in
         let down : new ≤ old = ⊎-elim (λ (q : new ≡ 0). omega arith) (λ q. top-bound y new (p .history) (sweep-no-new g S f s x y new q)) (top-found y (swept g p x)) in
         let up : old ≤ max (p .own y) new = ⊎-elim (λ (q : old ≡ 0). omega arith)
-              (λ q. ⊎-elim (λ w. let l = top-bound y old (swept g p x) w in omega arith) (λ w. let l = idle-low s y old sn w in omega arith) (sweep-idle g S f s x y old q)) (top-found y (p .history)) in
+        (λ q. ⊎-elim (λ w. let l = top-bound y old (swept g p x) w in omega arith) (λ w. let l = idle-low s y old sn w in omega arith) (sweep-idle g S f s x y old q)) (top-found y (p .history)) in
         omega arith
 
     sweep-done-peaks : (s x : ℕ) → s < g .n → Peaks L A (sweep-done g S s x)
@@ -186,7 +166,7 @@ module _ (g : Code) where
     unfolding take-done
     take-peaks a b r q = put-peaks b r _ (history-peak (S .servers b) r (q .own) (λ i lv y. f .reads b i lv .1 y) (q .history))
         (λ i ic lv bn. let w = q .reads i lv in
-           ap (λ z. best L z (A b)) (w .object) ∙ h .asked b i bn ic (w .was) ∙ sym (ap₂ (λ (x : ℕ) (T : ℕ → ℕ). T x) (w .object) (w .tags)))
+        ap (λ z. best L z (A b)) (w .object) ∙ h .asked b i bn ic (w .was) ∙ sym (ap₂ (λ (x : ℕ) (T : ℕ → ℕ). T x) (w .object) (w .tags)))
 
     question-peaks : (a b : ℕ) (m : Message) → Peaks L A (question-done g S a b m)
     unfolding question-done
@@ -201,17 +181,17 @@ module _ (g : Code) where
         → (v : List ℕ) (t w : ℕ) → read g S s x l d .answer ≡ Value v t w → (t ≡ best L x (A s)) × (v ≡ kept g L x t)
     read-latest R cells src val s x l d ok v t w = read-cases g S (λ z. z .answer ≡ Value v t w → (t ≡ best L x (A s)) × (v ≡ kept g L x t)) (λ r e. absurd (let q : _≡_ {A = ℕ} 0 1 = cc in omega arith)) s x l d
         (λ sn xk le e.
-          let p = S .servers s in
-          let et : top-tag x (p .history) ≡ t = cc in
-          let ev : kept g (p .history) x (top-tag x (p .history)) ≡ v = cc in
-          let b = h .peaks s sn x in
-          (omega arith, sym ev ∙ kept-right g R L (p .history) x (top-tag x (p .history)) cells (src .servers s .history) (held-top p x) ∙ ap (kept g L x) et))
+        let p = S .servers s in
+        let et : top-tag x (p .history) ≡ t = cc in
+        let ev : kept g (p .history) x (top-tag x (p .history)) ≡ v = cc in
+        let b = h .peaks s sn x in
+        (omega arith, sym ev ∙ kept-right g R L (p .history) x (top-tag x (p .history)) cells (src .servers s .history) (held-top p x) ∙ ap (kept g L x) et))
         (λ sn xk le rec e.
-          let p = S .servers s in
-          let et : p .own x ≡ t = cc in
-          let ev : d .value ≡ v = cc in
-          let b = h .peaks s sn x in
-          (omega arith, sym ev ∙ decoded-right g R L cells (only g s) (λ _. p .symbol) x (d .value) (p .own) xk (ok sn xk .decoded rec) (λ j jn q. rw (eqb-true j s q) (val .servers s sn .symbol)) ∙ ap (kept g L x) et))
+        let p = S .servers s in
+        let et : p .own x ≡ t = cc in
+        let ev : d .value ≡ v = cc in
+        let b = h .peaks s sn x in
+        (omega arith, sym ev ∙ decoded-right g R L cells (only g s) (λ _. p .symbol) x (d .value) (p .own) xk (ok sn xk .decoded rec) (λ j jn q. rw (eqb-true j s q) (val .servers s sn .symbol)) ∙ ap (kept g L x) et))
         (λ sn xk lt rec _ e. absurd (let q : _≡_ {A = ℕ} 0 1 = cc in omega arith))
       where
         held-top : (p : Server) (x : ℕ) → holds (p .history) x (top-tag x (p .history)) ≡ true

@@ -1,16 +1,15 @@
 -- A group as functions of numbers: its code, its servers, its lanes.
-use mathlib.Core.Path.{_≡_}
-use mathlib.Core.List.{List, [], _∷_, _++_}
+use mathlib.Core.List.{List, [], _∷_}
 use mathlib.Core.Bool.{Bool, true, false, cond, _&&_, _||_, not}
-use Prim.Native.Nat.{ℕ, zero, suc, _+_, _<_, _≤_, max}
-use lib.Dec.{eqb, ltb, leb}
+use Prim.Native.Nat.{ℕ, max}
+use lib.Dec.{eqb, ltb}
 use Rattle.field.specs.Arithmetic.{Arithmetic}
 use Rattle.code.specs.Codings.{Coding}
 use Rattle.rules.specs.State.{Layout}
-use lib.ListN.{length, getD}
-use Rattle.rules.proofs.RankedMessages.{Message, tag}
+use lib.ListN.{getD}
+use Rattle.rules.proofs.RankedMessages.{tag}
 use Rattle.rules.proofs.Core.{Core}
-use Rattle.rules.proofs.RankedWords.{upd, listed, Lanes}
+use Rattle.rules.proofs.RankedWords.{listed, Lanes}
 
 -- the sizes, the field's operations, and the coefficient of a server and an object
 pub record Code : Type 0 where
@@ -144,7 +143,16 @@ no-read = record { state = 0; number = 0; object = 0; tags = λ _. 0; hand = λ 
 
 abbrev pub no-server : Code → Server
 no-server g = record {
-    clock = λ _. 0; top = 0; symbol = zeros g; own = λ _. 0; told = λ _ _. 0; history = []; waiting = []; reads = λ _. no-read; opened = 0 }
+  clock = λ _. 0;
+  top = 0;
+  symbol = zeros g;
+  own = λ _. 0;
+  told = λ _ _. 0;
+  history = [];
+  waiting = [];
+  reads = λ _. no-read;
+  opened = 0;
+}
 
 abbrev pub fresh : Code → State
 fresh g = record { servers = λ _. no-server g; lanes = λ _ _. [] }
@@ -155,11 +163,12 @@ is-open r = eqb (r .state) 1
 -- ---- what the order of tags rests on
 abbrev pub core : State → Core
 core S = record {
-    own = λ s x. S .servers s .own x
-  ; told = λ s x j. S .servers s .told x j
-  ; held = λ s x t. holds (S .servers s .history) x t
-  ; lane = S .lanes
-  ; live = λ s i. ltb i slots && is-open (S .servers s .reads i)
-  ; num = λ s i. S .servers s .reads i .number
-  ; want = λ s i y. S .servers s .reads i .tags y
-  ; last = λ s. S .servers s .opened }
+  own = λ s x. S .servers s .own x;
+  told = λ s x j. S .servers s .told x j;
+  held = λ s x t. holds (S .servers s .history) x t;
+  lane = S .lanes;
+  live = λ s i. ltb i slots && is-open (S .servers s .reads i);
+  num = λ s i. S .servers s .reads i .number;
+  want = λ s i y. S .servers s .reads i .tags y;
+  last = λ s. S .servers s .opened;
+}

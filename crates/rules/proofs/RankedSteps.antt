@@ -1,20 +1,19 @@
--- The seven calls, each as a function of the state and of what was found, and runs.
-use mathlib.Core.Path.{_≡_}
+-- The seven calls on ranked states, each as a function of the state and of what was found, in the shape of the rules.
 use mathlib.Core.List.{List, [], _∷_, _++_}
 use mathlib.Core.Bool.{Bool, true, false, cond, _&&_, _||_, not}
-use Prim.Native.Nat.{ℕ, zero, suc, _+_, _-_, _*_, _/_, _%_, _<_, _≤_, max}
+use Prim.Native.Nat.{ℕ, zero, suc, _+_, _-_, max}
 use lib.Dec.{eqb, ltb, leb}
 use lib.ListN.{length, getD, take, drop}
 use Rattle.std.specs.declared.option.Option.{Option}
 use Rattle.std.specs.declared.option.Option.the-variants.{None, Some}
 use Rattle.std.specs.shelf.Lists.{kept-by}
-pub use Rattle.rules.specs.Turns.{Call, Write, Read as Ask, Collect, Deliver, Apply, Encode, Sweep, Found}
-pub use Rattle.rules.specs.Runs.{Move}
 use Rattle.rules.specs.Delivering as rule
 use Rattle.rules.proofs.Unranked.{message-at}
 use Rattle.rules.proofs.RankedMessages.{Message, Written, Tagged, Question, Plain, Coded, tag, height, server}
 use Rattle.rules.proofs.RankedWords.{upd, listed, every, some, seek, lowest, Lanes, posted, spread, taken, free}
-use Rattle.rules.proofs.Ranked.{Code, layout-of, Entry, Waiting, Read, Server, State, clients, slots, depth, queue, most-writes, most-reads, most-height, has, zeros, swap, same-entry, enters, holds, kept, highest, top-tag, no-read, is-open}
+use Rattle.rules.proofs.Ranked.{Code, layout-of, Entry, Waiting, Read, Server, State, clients, slots, depth, queue, most-writes, most-reads, most-height, has, swap, same-entry, holds, kept, highest, top-tag, no-read, is-open}
+pub use Rattle.rules.specs.Turns.{Call, Write, Read as Ask, Collect, Deliver, Apply, Encode, Sweep, Found}
+pub use Rattle.rules.specs.Runs.{Move}
 
 pub data Answer : Type 0 where
   Refused : ℕ → Answer
@@ -50,52 +49,150 @@ put S s p L = record { servers = upd (S .servers) s p; lanes = L }
 
 unfoldable pub entered : Server → Entry → Server
 entered p e = record {
-    clock = p .clock; top = p .top; symbol = p .symbol; own = p .own; told = p .told; history = p .history ++ e ∷ []; waiting = p .waiting; reads = p .reads; opened = p .opened }
+  clock = p .clock;
+  top = p .top;
+  symbol = p .symbol;
+  own = p .own;
+  told = p .told;
+  history = p .history ++ e ∷ [];
+  waiting = p .waiting;
+  reads = p .reads;
+  opened = p .opened;
+}
 
 -- the clock's count of j becomes c, and the greatest height applied is at least h
 unfoldable pub counted : Server → ℕ → ℕ → ℕ → Server
 counted p j c h = record {
-    clock = upd (p .clock) j c; top = max (p .top) h; symbol = p .symbol; own = p .own; told = p .told; history = p .history; waiting = p .waiting; reads = p .reads; opened = p .opened }
+  clock = upd (p .clock) j c;
+  top = max (p .top) h;
+  symbol = p .symbol;
+  own = p .own;
+  told = p .told;
+  history = p .history;
+  waiting = p .waiting;
+  reads = p .reads;
+  opened = p .opened;
+}
 
 unfoldable pub queued : Server → List Waiting → Server
 queued p ws = record {
-    clock = p .clock; top = p .top; symbol = p .symbol; own = p .own; told = p .told; history = p .history; waiting = ws; reads = p .reads; opened = p .opened }
+  clock = p .clock;
+  top = p .top;
+  symbol = p .symbol;
+  own = p .own;
+  told = p .told;
+  history = p .history;
+  waiting = ws;
+  reads = p .reads;
+  opened = p .opened;
+}
 
 unfoldable pub sifted : Server → List Entry → Server
 sifted p es = record {
-    clock = p .clock; top = p .top; symbol = p .symbol; own = p .own; told = p .told; history = es; waiting = p .waiting; reads = p .reads; opened = p .opened }
+  clock = p .clock;
+  top = p .top;
+  symbol = p .symbol;
+  own = p .own;
+  told = p .told;
+  history = es;
+  waiting = p .waiting;
+  reads = p .reads;
+  opened = p .opened;
+}
 
 unfoldable pub reading : Server → (ℕ → Read) → Server
 reading p rs = record {
-    clock = p .clock; top = p .top; symbol = p .symbol; own = p .own; told = p .told; history = p .history; waiting = p .waiting; reads = rs; opened = p .opened }
+  clock = p .clock;
+  top = p .top;
+  symbol = p .symbol;
+  own = p .own;
+  told = p .told;
+  history = p .history;
+  waiting = p .waiting;
+  reads = rs;
+  opened = p .opened;
+}
 
 unfoldable pub tells : Server → ℕ → ℕ → ℕ → Server
 tells p x j t = record {
-    clock = p .clock; top = p .top; symbol = p .symbol; own = p .own; told = upd (p .told) x (upd (p .told x) j t); history = p .history; waiting = p .waiting; reads = p .reads; opened = p .opened }
+  clock = p .clock;
+  top = p .top;
+  symbol = p .symbol;
+  own = p .own;
+  told = upd (p .told) x (upd (p .told x) j t);
+  history = p .history;
+  waiting = p .waiting;
+  reads = p .reads;
+  opened = p .opened;
+}
 
 -- the own tag of x becomes t, and the symbol v
 unfoldable pub moved : Server → ℕ → ℕ → ℕ → List ℕ → Server
 moved p s x t v = record {
-    clock = p .clock; top = p .top; symbol = v; own = upd (p .own) x t; told = upd (p .told) x (upd (p .told x) s t); history = p .history; waiting = p .waiting; reads = p .reads; opened = p .opened }
+  clock = p .clock;
+  top = p .top;
+  symbol = v;
+  own = upd (p .own) x t;
+  told = upd (p .told) x (upd (p .told x) s t);
+  history = p .history;
+  waiting = p .waiting;
+  reads = p .reads;
+  opened = p .opened;
+}
 
 -- a new read of x at the place i
 abbrev pub new-read : Server → ℕ → ℕ → Read
 new-read p s x = record {
-    state = 1; number = p .opened + 1; object = x; tags = p .own; hand = λ j. eqb j s; symbols = λ j. p .symbol; value = []; tag = 0; way = 0 }
+  state = 1;
+  number = p .opened + 1;
+  object = x;
+  tags = p .own;
+  hand = λ j. eqb j s;
+  symbols = λ j. p .symbol;
+  value = [];
+  tag = 0;
+  way = 0;
+}
 
 unfoldable pub opening : Server → ℕ → ℕ → ℕ → Server
 opening p s i x = record {
-    clock = p .clock; top = p .top; symbol = p .symbol; own = p .own; told = p .told; history = p .history; waiting = p .waiting
-  ; reads = upd (p .reads) i (new-read p s x); opened = p .opened + 1 }
+  clock = p .clock;
+  top = p .top;
+  symbol = p .symbol;
+  own = p .own;
+  told = p .told;
+  history = p .history;
+  waiting = p .waiting;
+  reads = upd (p .reads) i (new-read p s x);
+  opened = p .opened + 1;
+}
 
 abbrev pub answered : Read → List ℕ → ℕ → ℕ → Read
 answered r v t way = record {
-    state = 2; number = r .number; object = r .object; tags = r .tags; hand = r .hand; symbols = r .symbols; value = v; tag = t; way = way }
+  state = 2;
+  number = r .number;
+  object = r .object;
+  tags = r .tags;
+  hand = r .hand;
+  symbols = r .symbols;
+  value = v;
+  tag = t;
+  way = way;
+}
 
 -- the read with one symbol more in hand
 abbrev pub in-hand : Read → ℕ → List ℕ → Read
 in-hand r j v = record {
-    state = r .state; number = r .number; object = r .object; tags = r .tags; hand = upd (r .hand) j true; symbols = upd (r .symbols) j v; value = r .value; tag = r .tag; way = r .way }
+  state = r .state;
+  number = r .number;
+  object = r .object;
+  tags = r .tags;
+  hand = upd (r .hand) j true;
+  symbols = upd (r .symbols) j v;
+  value = r .value;
+  tag = r .tag;
+  way = r .way;
+}
 
 -- a write to x with the tag t answers the open client reads of x, all or those with a lower tag
 unfoldable pub overtaken : (ℕ → Read) → Bool → ℕ → ℕ → List ℕ → ℕ → Read
@@ -134,7 +231,7 @@ module _ (g : Code) where
       let t = write-tag p s in
       let c = counted p s (p .clock s + 1) (p .top + 1) in
       put S s (reading (entered c (record { object = x; tag = t; value = v })) (overtaken (p .reads) true x t v))
-        (spread (S .lanes) s (g .n) (Written x v (p .top + 1) (listed (g .n) (c .clock))))
+      (spread (S .lanes) s (g .n) (Written x v (p .top + 1) (listed (g .n) (c .clock))))
 
   unfoldable pub write-refusal : State → ℕ → ℕ → List ℕ → ℕ
   write-refusal S s x v =
@@ -254,7 +351,7 @@ module _ (g : Code) where
       let t = top-tag x (p .history) in
       cond (leb t (p .own x)) (turn (Outcome 0) S)
       (cond (holds (p .history) x (p .own x))
-        (unless (check (room S s) 17 0) S (turn (Outcome 1) (move-done S s x t (swap g s x (kept g (p .history) x (p .own x)) (kept g (p .history) x t) (p .symbol)))))
+      (unless (check (room S s) 17 0) S (turn (Outcome 1) (move-done S s x t (swap g s x (kept g (p .history) x (p .own x)) (kept g (p .history) x t) (p .symbol)))))
       (cond (is-open (p .reads (clients + x))) (turn (Outcome 2) S)
       (cond (f .recovered) (unless (check (history-room S s) 15 0) S (turn (Outcome 3) (enter-done S s (record { object = x; tag = p .own x; value = f .value }))))
       (unless (check (ltb (p .opened) most-reads) 14 (check (room S s) 17 0)) S (turn (Outcome 4) (open-done S s (clients + x) x))))))
@@ -359,8 +456,8 @@ module _ (g : Code) where
   mended p a r v st zero = v
   mended p a r v st (suc y) =
       cond (has g a y && not (eqb (getD st y 0) (r .tags y)))
-        (swap g a y (kept g (p .history) y (getD st y 0)) (kept g (p .history) y (r .tags y)) (mended p a r v st y))
-        (mended p a r v st y)
+      (swap g a y (kept g (p .history) y (getD st y 0)) (kept g (p .history) y (r .tags y)) (mended p a r v st y))
+      (mended p a r v st y)
 
   unfoldable pub got : State → ℕ → ℕ → Message → Found → Turn
   got S a b (Written x v h ck) f =
@@ -382,10 +479,10 @@ module _ (g : Code) where
       let r = p .reads i in
       let r′ = in-hand r a (mended p a r v st (g .k)) in
       cond (ltb i slots)
-        (cond (mendable p a r st)
-          (cond (f .recovered) (settle S a b i r′ (f .value)) (turn (Outcome 3) (take-done S a b (reading p (upd (p .reads) i r′)))))
-          (turn (Outcome 6) (take-done S a b p)))
-        (turn (Outcome 5) (take-done S a b p))
+      (cond (mendable p a r st)
+      (cond (f .recovered) (settle S a b i r′ (f .value)) (turn (Outcome 3) (take-done S a b (reading p (upd (p .reads) i r′)))))
+      (turn (Outcome 6) (take-done S a b p)))
+      (turn (Outcome 5) (take-done S a b p))
 
   unfoldable pub oldest : State → ℕ → ℕ → List Message → Found → Turn
   oldest S a b [] f = turn (Refused 13) S
@@ -397,7 +494,7 @@ module _ (g : Code) where
   unfoldable pub deliver : State → ℕ → ℕ → Found → Turn
   deliver S a b f = unless (lane-refusal a b) S (oldest S a b (S .lanes a b) f)
 
-  -- ---- one call, and a run of calls
+  -- ---- one call
 
   abbrev pub step : State → Call → Found → Turn
   step S (Write s x v) f = write S s x v
@@ -410,7 +507,3 @@ module _ (g : Code) where
 
   abbrev pub after : State → Move → State
   after S m = step S (m .call) (m .found) .next
-
-  abbrev pub run : State → List Move → State
-  run S [] = S
-  run S (m ∷ ms) = run (after S m) ms

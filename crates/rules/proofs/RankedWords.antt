@@ -1,8 +1,7 @@
 -- Small words of the ranked model: those of the rules, and searches and lowest by number.
-use mathlib.Core.List.{List, [], _∷_, _++_, map}
-use mathlib.Core.Bool.{Bool, true, false, cond, _&&_, _||_, not}
-use Prim.Native.Nat.{ℕ, zero, suc, _+_, _<_, _≤_, min}
-use lib.Dec.{eqb, ltb, leb}
+use mathlib.Core.Bool.{Bool, cond}
+use Prim.Native.Nat.{ℕ, zero, suc, min}
+use lib.Dec.{ltb}
 use Rattle.rules.specs.Lanes as lanes
 use Rattle.rules.proofs.RankedMessages.{Message}
 pub use Rattle.terms.specs.Lists.{listed}

@@ -1,16 +1,15 @@
 -- What the invariant says of a new question, of a reply, and of a reply that is taken; and where it starts.
-use mathlib.Core.Path.{_≡_, refl, sym, ap, _∙_, subst}
+use mathlib.Core.Path.{_≡_, refl, sym, _∙_}
 use mathlib.Core.List.{List, [], _∷_, _++_}
 use mathlib.Core.Bool.{Bool, true, false, cond}
 use mathlib.Core.Logic.{_⊎_, inl, inr, ⊎-elim}
-use Prim.Native.Nat.{ℕ, zero, suc, _+_, _<_, _≤_}
+use Prim.Native.Nat.{ℕ, _+_, _<_, _≤_}
 use native.Mathlib.Omega.{arith}
 use lib.Dec.{eqb}
 use lib.ListN.{getD}
-use Rattle.std.proofs.shelf.Tests.{both-ways, cases-bool, cases-eq, cases-order, eq-eqb, ne-eqb}
-use Rattle.rules.proofs.RankedMessages.{Message, Written, Tagged, Question, Plain, Coded}
-use Rattle.rules.proofs.Core.{Core, heard, after, Chain, On, Kept, Asked, Mends, Replied, Good, Sound}
-use Rattle.std.proofs.shelf.Tests.{eqb-true, eqb-false}
+use Rattle.std.proofs.shelf.Tests.{both-ways, cases-bool, cases-order, eqb-true, eqb-false}
+use Rattle.rules.proofs.RankedMessages.{Message, Question, Coded}
+use Rattle.rules.proofs.Core.{Core, Chain, On, Kept, Asked, Mends, Replied, Good, Sound}
 use Rattle.rules.proofs.Walks.{chain-after, chain-le, on-le}
 
 -- the tag that a server states of an object it contains, where u is asked, o its own tag, and it holds o and u or not
@@ -23,21 +22,23 @@ module _ (n k : ℕ) (has : ℕ → ℕ → Bool) (c : Core) (h : Sound n k has 
 
   -- a new question
   pub opens : (a b i p x : ℕ) (T : List ℕ) → a < n → b < n → (a ≡ b → ⊥) → p ≤ c .last a
-        → ((y : ℕ) → y < k → getD T y 0 ≡ c .own a y)
-        → ((i : ℕ) → c .live a i ≡ true → c .num a i ≡ p → (y : ℕ) → c .want a i y ≡ c .own a y)
-        → Good n k has c a b (c .lane a b) (Question p x T)
+      → ((y : ℕ) → y < k → getD T y 0 ≡ c .own a y)
+      → ((i : ℕ) → c .live a i ≡ true → c .num a i ≡ p → (y : ℕ) → c .want a i y ≡ c .own a y)
+      → Good n k has c a b (c .lane a b) (Question p x T)
   opens a b i p x T an bn ne le tags reads = record {
-      counted = le
-    ; chain = λ y lt. tags y lt ∙ sym (chain-after y (c .told b y a) (c .lane a b) (c .own a y) (h .chain a b y an bn ne))
-    ; read = λ i lv nu y lt. reads i lv nu y ∙ sym (tags y lt)
-    ; kept = λ i lv nu y lt f. rw (reads i lv nu y) (kept y f) }
+    counted = le;
+    chain = λ y lt. tags y lt ∙ sym (chain-after y (c .told b y a) (c .lane a b) (c .own a y) (h .chain a b y an bn ne));
+    read = λ i lv nu y lt. reads i lv nu y ∙ sym (tags y lt);
+    kept = λ i lv nu y lt f. rw (reads i lv nu y) (kept y f);
+  }
     where
       kept : (y : ℕ) → has b y ≡ true → Kept n k has c a b y (c .own a y)
       kept y f = elim (cases-bool (c .held a y (c .own a y))) [
-          inl e ↦ inl e
+        | inl e ↦ inl e
         | inr e ↦
             let l = h .bare a b y an bn e in let m = known a b y an bn (λ q. ne (sym q)) in
-            inr (omega arith, λ lt. h .lost a b y an bn e f lt) ]
+            inr (omega arith, λ lt. h .lost a b y an bn e f lt)
+      ]
 
   -- a coded reply of b to the question of a that is the oldest of their lane
   module _ (a b p x : ℕ) (T : List ℕ) (rest : List Message) (an : a < n) (bn : b < n) (ne : a ≡ b → ⊥) (e : c .lane a b ≡ Question p x T ∷ rest) where
@@ -63,10 +64,11 @@ module _ (n k : ℕ) (has : ℕ → ℕ → Bool) (c : Core) (h : Sound n k has 
 
       passed : c .held b y (getD T y 0) ≡ false → getD T y 0 < c .own b y → Mends n k has c b a (c .lane b a) y (getD T y 0) 0
       passed no-held low = record {
-          wanted = ⊎-elim (λ q. q) (λ (q : (getD T y 0 ≤ c .own b y) × (getD T y 0 < c .own b y → c .held b y (getD T y 0) ≡ true)). absurd (both-ways (c .held b y (getD T y 0)) no-held (q .1 low))) kept
-        ; stated = h .zero-held a y
-        ; off = λ on. both-ways (c .held b y (getD T y 0)) no-held (h .passed b a y (getD T y 0) a bn an (λ q. ne (sym q)) f on low an (let w = is-told in omega arith))
-        ; low = inl refl }
+        wanted = ⊎-elim (λ q. q) (λ (q : (getD T y 0 ≤ c .own b y) × (getD T y 0 < c .own b y → c .held b y (getD T y 0) ≡ true)). absurd (both-ways (c .held b y (getD T y 0)) no-held (q .1 low))) kept;
+        stated = h .zero-held a y;
+        off = λ on. both-ways (c .held b y (getD T y 0)) no-held (h .passed b a y (getD T y 0) a bn an (λ q. ne (sym q)) f on low an (let w = is-told in omega arith));
+        low = inl refl;
+      }
 
       high-wanted : c .own b y < getD T y 0 → c .held a y (getD T y 0) ≡ true
       high-wanted hi = ⊎-elim (λ q. q) (λ (q : (getD T y 0 ≤ c .own b y) × (getD T y 0 < c .own b y → c .held b y (getD T y 0) ≡ true)). absurd (let w = q .0 in omega arith)) kept
@@ -79,18 +81,20 @@ module _ (n k : ℕ) (has : ℕ → ℕ → Bool) (c : Core) (h : Sound n k has 
 
       has-too : c .own b y < getD T y 0 → has a y ≡ true
       has-too hi = elim (cases-bool (has a y)) [
-          inl q ↦ q
-        | inr q ↦ absurd (let w = h .behind a b y an bn q f in let v = known a b y an bn (λ r. ne (sym r)) in let z = above hi in omega arith) ]
+        | inl q ↦ q
+        | inr q ↦ absurd (let w = h .behind a b y an bn q f in let v = known a b y an bn (λ r. ne (sym r)) in let z = above hi in omega arith)
+      ]
 
       ahead-zero : c .own b y < getD T y 0 → Mends n k has c b a (c .lane b a) y (getD T y 0) 0
       ahead-zero hi = record { wanted = high-wanted hi; stated = h .zero-held a y; off = high-off hi; low = inl refl }
 
       ahead-own : c .own b y < getD T y 0 → c .held b y (c .own b y) ≡ false → Mends n k has c b a (c .lane b a) y (getD T y 0) (c .own b y)
       ahead-own hi bare = record {
-          wanted = high-wanted hi
-        ; stated = h .lost b a y bn an bare (has-too hi) (above hi)
-        ; off = high-off hi
-        ; low = inr (hi, let w = chain-after y (c .told a y b) (c .lane b a) (c .own b y) chain-back in omega arith) }
+        wanted = high-wanted hi;
+        stated = h .lost b a y bn an bare (has-too hi) (above hi);
+        off = high-off hi;
+        low = inr (hi, let w = chain-after y (c .told a y b) (c .lane b a) (c .own b y) chain-back in omega arith);
+      }
 
       Fits : ℕ → Type 0
       Fits w = (w ≡ getD T y 0) ⊎ Mends n k has c b a (c .lane b a) y (getD T y 0) w
@@ -115,7 +119,7 @@ module _ (n k : ℕ) (has : ℕ → ℕ → Bool) (c : Core) (h : Sound n k has 
       by-same false e = by-own (eqb-false (getD T y 0) (c .own b y) e) (c .held b y (c .own b y)) refl
 
       fits : (stated (getD T y 0) (c .own b y) (c .held b y (c .own b y)) (c .held b y (getD T y 0)) ≡ c .want a i y)
-           ⊎ Mends n k has c b a (c .lane b a) y (c .want a i y) (stated (getD T y 0) (c .own b y) (c .held b y (c .own b y)) (c .held b y (getD T y 0)))
+          ⊎ Mends n k has c b a (c .lane b a) y (c .want a i y) (stated (getD T y 0) (c .own b y) (c .held b y (c .own b y)) (c .held b y (getD T y 0)))
       unfolding Fits
       fits = rw (asked .read i lv nu y lt) (by-same (eqb (getD T y 0) (c .own b y)) refl)
 
@@ -123,16 +127,17 @@ module _ (n k : ℕ) (has : ℕ → ℕ → Bool) (c : Core) (h : Sound n k has 
         → ((y : ℕ) → y < k → has b y ≡ true → getD st y 0 ≡ stated (getD T y 0) (c .own b y) (c .held b y (c .own b y)) (c .held b y (getD T y 0)))
         → Good n k has c b a (c .lane b a) (Coded p v st)
     replies v st states = record {
-        counted = asked .counted
-      ; usable = λ i lv nu y lt f. rw (states y lt f) (fits y lt f i lv nu) }
+      counted = asked .counted;
+      usable = λ i lv nu y lt f. rw (states y lt f) (fits y lt f i lv nu);
+    }
 
     pub counts : p ≤ c .last a
     counts = asked .counted
 
   -- a coded reply that is the oldest of its lane can be used
   pub usable : (a b p : ℕ) (v st : List ℕ) (rest : List Message) → a < n → b < n → (a ≡ b → ⊥) → c .lane a b ≡ Coded p v st ∷ rest
-        → (i : ℕ) → c .live b i ≡ true → c .num b i ≡ p → (y : ℕ) → y < k → has a y ≡ true
-        → (getD st y 0 ≡ c .want b i y) ⊎ ((c .held b y (getD st y 0) ≡ true) × (c .held b y (c .want b i y) ≡ true))
+      → (i : ℕ) → c .live b i ≡ true → c .num b i ≡ p → (y : ℕ) → y < k → has a y ≡ true
+      → (getD st y 0 ≡ c .want b i y) ⊎ ((c .held b y (getD st y 0) ≡ true) × (c .held b y (c .want b i y) ≡ true))
   usable a b p v st rest an bn ne e i lv nu y lt f =
       let q : Replied n k has c a b [] p st = h .lanes a b an bn ne [] (Coded p v st) rest e in
       ⊎-elim (λ w. inl w) (λ (w : Mends n k has c a b [] y (c .want b i y) (getD st y 0)). inr (w .stated, w .wanted)) (q .usable i lv nu y lt f)
@@ -151,12 +156,13 @@ pub record Zero (c : Core) : Type 0 where
 
 pub starts : (n k : ℕ) (has : ℕ → ℕ → Bool) (c : Core) → Zero c → Sound n k has c
 starts n k has c z = record {
-    zero-held = z .held
-  ; self = λ s x. z .told s x s ∙ sym (z .own s x)
-  ; chain = λ j s x jn sn ne. rw (z .lane j s) (z .told s x j ∙ sym (z .own j x))
-  ; behind = λ s j x sn jn e f. let w = z .own s x in omega arith
-  ; bare = λ s j x sn jn e. let w = z .own s x in omega arith
-  ; passed = λ j s x t i jn sn ne f on lt inn le. absurd (let w = z .own j x in omega arith)
-  ; lost = λ s j x sn jn e f lt. absurd (let w = z .own j x in omega arith)
-  ; reads = λ s i e. absurd (both-ways (c .live s i) (z .live s i) e)
-  ; lanes = λ a b an bn ne pre m post e. absurd (nil-no pre m post (sym (z .lane a b) ∙ e)) }
+  zero-held = z .held;
+  self = λ s x. z .told s x s ∙ sym (z .own s x);
+  chain = λ j s x jn sn ne. rw (z .lane j s) (z .told s x j ∙ sym (z .own j x));
+  behind = λ s j x sn jn e f. let w = z .own s x in omega arith;
+  bare = λ s j x sn jn e. let w = z .own s x in omega arith;
+  passed = λ j s x t i jn sn ne f on lt inn le. absurd (let w = z .own j x in omega arith);
+  lost = λ s j x sn jn e f lt. absurd (let w = z .own j x in omega arith);
+  reads = λ s i e. absurd (both-ways (c .live s i) (z .live s i) e);
+  lanes = λ a b an bn ne pre m post e. absurd (nil-no pre m post (sym (z .lane a b) ∙ e));
+}

@@ -2,26 +2,23 @@
 use mathlib.Core.Path.{_≡_, refl, sym, ap, ap₂, _∙_, subst, fun-ext}
 use mathlib.Core.List.{List, [], _∷_, _++_, map}
 use mathlib.Core.Bool.{Bool, true, false, cond, _&&_, _||_, not}
-use mathlib.Core.Logic.{_⊎_, inl, inr, ⊎-elim}
-use Prim.Native.Nat.{ℕ, zero, suc, _+_, _-_, _*_, _/_, _%_, _<_, _≤_, min, max}
+use Prim.Native.Nat.{ℕ, zero, suc, _+_, _-_, _<_, _≤_}
 use native.Mathlib.Omega.{arith}
 use lib.Dec.{eqb, ltb, leb}
 use lib.ListN.{length, getD, take, drop, length-map}
-use Rattle.std.specs.Options.{isSome}
-use Rattle.std.specs.shelf.Lists.{kept-by}
 use Rattle.std.specs.declared.option.Option.{Option}
 use Rattle.std.specs.declared.option.Option.the-variants.{None, Some}
 use Rattle.std.proofs.shelf.Ways.{tells}
-use Rattle.std.proofs.shelf.Tests.{cases-bool, cond-true, cond-false, cond-both, ltb-true, eqb-true, and-parts, both-ways}
+use Rattle.std.proofs.shelf.Tests.{ltb-true, eqb-true, both-ways}
 use Rattle.std.proofs.shelf.Lists.{map-append}
 use Rattle.terms.specs.Lists.{listed}
 use Rattle.terms.specs.declared.refusal.Refusal.{Refusal}
 use Rattle.message.specs.declared.tag.Tag as declared
-use Rattle.message.specs.Tags.{zero-tag, lower, same}
-use Rattle.message.specs.Meanings.{Meaning, write-notice, tag-notice, question, plain-reply, coded-reply}
-use Rattle.rules.specs.Words.{upd, every, some, first-below}
+use Rattle.message.specs.Tags.{lower}
+use Rattle.message.specs.Meanings.{Meaning, write-notice, question}
+use Rattle.rules.specs.Words.{upd}
 use Rattle.rules.specs.Lanes as lanes
-use Rattle.rules.specs.Lanes.{posted, spread, taken, free}
+use Rattle.rules.specs.Lanes.{spread}
 use Rattle.rules.specs.Histories as history
 use Rattle.rules.specs.State as model
 use Rattle.rules.specs.State.{Free, Open, Answered}
@@ -31,14 +28,14 @@ use Rattle.rules.specs.Updates as updates
 use Rattle.rules.specs.Writing as writing
 use Rattle.rules.specs.Reading as reading-rule
 use Rattle.rules.specs.Encoding as encoding
-use Rattle.rules.proofs.RankedMessages.{Message, Written, Tagged, Question, Plain, Coded, tag, height, server}
-use Rattle.rules.proofs.Unranked.{tag-at, message-at}
-use Rattle.rules.proofs.RankedWords.{seek, lowest, Lanes}
-use Rattle.rules.proofs.Ranked.{Code, layout-of, Entry, Waiting, Read, Server, State, has, zeros, swap, same-entry, holds, kept, highest, top-tag, is-open, no-read, clients, slots, depth, most-reads}
+use Rattle.rules.proofs.RankedMessages.{Written, Tagged, Question, tag, height, server}
+use Rattle.rules.proofs.Unranked.{tag-at}
+use Rattle.rules.proofs.RankedWords.{Lanes}
+use Rattle.rules.proofs.Ranked.{Code, layout-of, Entry, Waiting, Read, Server, State, kept, top-tag, is-open, clients, depth, most-reads}
 use Rattle.rules.proofs.RankedSteps as Steps
-use Rattle.rules.proofs.RankedSteps.{Answer, Refused, Tag, Value, Number, Still, Nothing, Outcome, Count, Turn, turn, Picked}
+use Rattle.rules.proofs.RankedSteps.{Refused, Tag, Value, Number, Turn, turn}
 use Rattle.rules.proofs.Calls.{checked}
-use Rattle.rules.proofs.View.{entry-at, waiting-at, asking-at, given-at, read-at, server-at, lanes-at, state-at, refusal-of, refusal-at, answer-at, turn-at, cond-at, upd-at, getD-at, take-at, drop-at, listed-at, kept-by-at, every-same, some-same, lower-at, same-at, above-at, tag-made, lowest-at, has-entry-at, holds-at, value-at, highest-at, top-at, Shape, shape-free, shape-open, shape-answered, shape, posted-at, spread-at, taken-at, lanes-free-at, first-at, check-at}
+use Rattle.rules.proofs.View.{entry-at, waiting-at, asking-at, given-at, read-at, server-at, lanes-at, state-at, refusal-of, refusal-at, turn-at, cond-at, upd-at, getD-at, take-at, drop-at, listed-at, lower-at, same-at, above-at, tag-made, value-at, top-at, Shape, shape-free, shape-open, shape-answered, shape, spread-at, lanes-free-at, first-at}
 
 -- ---- turns
 
@@ -60,6 +57,7 @@ cond-above a b x y u v p q = ap (λ z. cond z x y) (lower-at a b) ∙ turned (lt
   where
     flip : ltb a b ≡ not (leb b a)
     flip = grind (arith, tells)
+
     turned : (d c : Bool) → d ≡ not c → cond d x y ≡ turn-at (cond c v u)
     turned d true e = ap (λ z. cond z x y) e ∙ q
     turned d false e = ap (λ z. cond z x y) e ∙ p
@@ -212,7 +210,7 @@ module _ (g : Code) where
   write-refusal-same S s x v =
       let used = ltb (S .servers s .clock s) 1000000 && ltb (S .servers s .top) 6000000 in
       chain-at ((ltb s (g .n), ltb s (g .n), 7) ∷ (ltb x (g .k), ltb x (g .k), 8) ∷ (eqb (length v) (g .w), eqb (length v) (g .w), 9) ∷ (Steps.elements g v, Steps.elements g v, 11)
-        ∷ (used, used, 14) ∷ (writing.history-room (state-at S) s, Steps.history-room g S s, 15) ∷ (writing.room (layout-of g) (state-at S) s, Steps.room g S s, 17) ∷ [])
+      ∷ (used, used, 14) ∷ (writing.history-room (state-at S) s, Steps.history-room g S s, 15) ∷ (writing.room (layout-of g) (state-at S) s, Steps.room g S s, 17) ∷ [])
       ((refl, refl), ((refl, refl), ((refl, refl), ((refl, refl), ((refl, refl), ((history-room-same S s, refl), ((room-same S s, refl), tt)))))))
 
   write-done-same : (S : State) (s x : ℕ) (v : List ℕ) → s < 6 → writing.write-done (layout-of g) (state-at S) s x v ≡ state-at (Steps.write-done g S s x v)
@@ -223,11 +221,11 @@ module _ (g : Code) where
       let c = Steps.counted p s (p .clock s + 1) (p .top + 1) in
       let e : Entry = record { object = x; tag = t; value = v } in
       ap (λ (z : declared.Tag). writing.put (state-at S) s
-            (updates.reading (updates.entered (server-at c) (record { object = x; tag = z; value = v })) (updates.overtaken (λ i. read-at (p .reads i)) true x z v))
-            (spread (lanes-at (S .lanes)) s (g .n) (write-notice x v (p .top + 1) (listed (g .n) (c .clock))))) (tag-made (p .top + 1) s lt)
+      (updates.reading (updates.entered (server-at c) (record { object = x; tag = z; value = v })) (updates.overtaken (λ i. read-at (p .reads i)) true x z v))
+      (spread (lanes-at (S .lanes)) s (g .n) (write-notice x v (p .top + 1) (listed (g .n) (c .clock))))) (tag-made (p .top + 1) s lt)
       ∙ put-same S s _ (Steps.reading (Steps.entered c e) (Steps.overtaken (p .reads) true x t v)) _ (spread (S .lanes) s (g .n) (Written x v (p .top + 1) (listed (g .n) (c .clock))))
-          (ap₂ updates.reading (entered-same c e) (overtaken-same (p .reads) true x t v) ∙ reading-same (Steps.entered c e) (Steps.overtaken (p .reads) true x t v))
-          (spread-at (S .lanes) s (g .n) (Written x v (p .top + 1) (listed (g .n) (c .clock))))
+      (ap₂ updates.reading (entered-same c e) (overtaken-same (p .reads) true x t v) ∙ reading-same (Steps.entered c e) (Steps.overtaken (p .reads) true x t v))
+      (spread-at (S .lanes) s (g .n) (Written x v (p .top + 1) (listed (g .n) (c .clock))))
 
   write-server : (S : State) (s x : ℕ) (v : List ℕ) → Steps.write-refusal g S s x v ≡ 0 → s < g .n
   unfolding Steps.write-refusal
@@ -269,7 +267,7 @@ module _ (g : Code) where
       let c = Steps.counted (Steps.queued p ws) j (getD (w .clock) j 0) (height (w .tag)) in
       let e : Entry = record { object = w .object; tag = w .tag; value = w .value } in
       put-same S s _ (Steps.reading (Steps.entered c e) (Steps.overtaken (p .reads) false (w .object) (w .tag) (w .value))) _ (S .lanes)
-        (ap₂ updates.reading (entered-same c e) (overtaken-same (p .reads) false (w .object) (w .tag) (w .value)) ∙ reading-same (Steps.entered c e) (Steps.overtaken (p .reads) false (w .object) (w .tag) (w .value))) refl
+      (ap₂ updates.reading (entered-same c e) (overtaken-same (p .reads) false (w .object) (w .tag) (w .value)) ∙ reading-same (Steps.entered c e) (Steps.overtaken (p .reads) false (w .object) (w .tag) (w .value))) refl
 
   apply-at-same : (S : State) (s : ℕ) (o : Option ℕ) → writing.apply-at (layout-of g) (state-at S) s o ≡ turn-at (Steps.apply-picked g S s (Steps.pick g (S .servers s .waiting) o))
   unfolding Steps.apply-picked
@@ -278,18 +276,18 @@ module _ (g : Code) where
       let ws = S .servers s .waiting in
       let w = Steps.write-at ws i in
       unless-at (Steps.check (Steps.history-room g S s) 15 0) _ S _ (turn (Tag (Steps.wait-tag g w)) (Steps.apply-done g S s w (take i ws ++ drop (suc i) ws)))
-        (chain-at ((writing.history-room (state-at S) s, Steps.history-room g S s, 15) ∷ []) ((history-room-same S s, refl), tt))
-        (λ _. ap₂ (λ (u : model.Waiting) (us : List model.Waiting). turns.turn (turns.Tagged (u .tag)) (writing.apply-done (layout-of g) (state-at S) s u us)) (write-at-same ws i) (without-same ws i)
-          ∙ ap (turns.turn (turns.Tagged (tag-at (w .tag)))) (apply-done-same S s w (take i ws ++ drop (suc i) ws)))
+      (chain-at ((writing.history-room (state-at S) s, Steps.history-room g S s, 15) ∷ []) ((history-room-same S s, refl), tt))
+      (λ _. ap₂ (λ (u : model.Waiting) (us : List model.Waiting). turns.turn (turns.Tagged (u .tag)) (writing.apply-done (layout-of g) (state-at S) s u us)) (write-at-same ws i) (without-same ws i)
+      ∙ ap (turns.turn (turns.Tagged (tag-at (w .tag)))) (apply-done-same S s w (take i ws ++ drop (suc i) ws)))
 
   pub apply-same : (S : State) (s : ℕ) → writing.apply (layout-of g) (state-at S) s ≡ turn-at (Steps.apply g S s)
   unfolding writing.apply Steps.apply Steps.picked
   apply-same S s =
       let p = S .servers s in
       unless-at (Steps.check (ltb s (g .n)) 7 0) _ S _ (Steps.apply-picked g S s (Steps.pick g (p .waiting) (Steps.next-ready g p (p .waiting) (length (p .waiting)))))
-        (chain-at ((ltb s (g .n), ltb s (g .n), 7) ∷ []) ((refl, refl), tt))
-        (λ _. ap (writing.apply-at (layout-of g) (state-at S) s) (ap (writing.next-ready (layout-of g) (server-at p) (map waiting-at (p .waiting))) (length-map (p .waiting) waiting-at) ∙ next-same p (p .waiting) (length (p .waiting)))
-          ∙ apply-at-same S s (Steps.next-ready g p (p .waiting) (length (p .waiting))))
+      (chain-at ((ltb s (g .n), ltb s (g .n), 7) ∷ []) ((refl, refl), tt))
+      (λ _. ap (writing.apply-at (layout-of g) (state-at S) s) (ap (writing.next-ready (layout-of g) (server-at p) (map waiting-at (p .waiting))) (length-map (p .waiting) waiting-at) ∙ next-same p (p .waiting) (length (p .waiting)))
+      ∙ apply-at-same S s (Steps.next-ready g p (p .waiting) (length (p .waiting))))
 
   -- ---- read
   pub open-done-same : (S : State) (s i x : ℕ) → reading-rule.open-done (layout-of g) (state-at S) s i x ≡ state-at (Steps.open-done g S s i x)
@@ -297,7 +295,7 @@ module _ (g : Code) where
   open-done-same S s i x =
       let p = S .servers s in
       put-same S s _ (Steps.opening p s i x) _ (spread (S .lanes) s (g .n) (Question (p .opened + 1) x (listed (g .k) (p .own)))) (opening-same p s i x)
-        (ap (λ ts. spread (lanes-at (S .lanes)) s (g .n) (question (p .opened + 1) x ts)) (listed-at tag-at (g .k) (p .own)) ∙ spread-at (S .lanes) s (g .n) (Question (p .opened + 1) x (listed (g .k) (p .own))))
+      (ap (λ ts. spread (lanes-at (S .lanes)) s (g .n) (question (p .opened + 1) x ts)) (listed-at tag-at (g .k) (p .own)) ∙ spread-at (S .lanes) s (g .n) (Question (p .opened + 1) x (listed (g .k) (p .own))))
 
   free-place-same : (p : Server) → reading-rule.free-place (server-at p) ≡ cond (ltb (Steps.free-slot g p) clients) (Some (Steps.free-slot g p)) None
   free-place-same p = first-at clients (λ i. updates.is-free (read-at (p .reads i))) (λ i. eqb (p .reads i .state) 0) (λ i. is-free-same (p .reads i))
@@ -309,14 +307,18 @@ module _ (g : Code) where
     where
       p : Server
       p = S .servers s
+
       i : ℕ
       i = Steps.free-slot g (S .servers s)
+
       done : Turn
       done = turn (Number (S .servers s .opened + 1)) (Steps.open-done g S s (Steps.free-slot g (S .servers s)) x)
+
       number : Bool
       number = ltb (S .servers s .opened) most-reads
+
       by : (b : Bool) → turns.unless (reading-rule.open-refusal (layout-of g) (state-at S) s (cond b (Some (Steps.free-slot g (S .servers s))) None)) (state-at S)
-            (turns.turn (turns.Numbered (S .servers s .opened + 1)) (reading-rule.opened-at (layout-of g) (state-at S) s x (cond b (Some (Steps.free-slot g (S .servers s))) None)))
+          (turns.turn (turns.Numbered (S .servers s .opened + 1)) (reading-rule.opened-at (layout-of g) (state-at S) s x (cond b (Some (Steps.free-slot g (S .servers s))) None)))
           ≡ turn-at (Steps.unless (Steps.check (ltb (S .servers s .opened) most-reads) 14 (Steps.check b 16 (Steps.check (Steps.room g S s) 17 0))) S (turn (Number (S .servers s .opened + 1)) (Steps.open-done g S s (Steps.free-slot g (S .servers s)) x)))
       by true = unless-at (Steps.check (ltb (S .servers s .opened) most-reads) 14 (Steps.check true 16 (Steps.check (Steps.room g S s) 17 0))) _ S _ (turn (Number (S .servers s .opened + 1)) (Steps.open-done g S s (Steps.free-slot g (S .servers s)) x))
           (chain-at ((ltb (S .servers s .opened) most-reads, ltb (S .servers s .opened) most-reads, 14) ∷ (true, true, 16) ∷ (writing.room (layout-of g) (state-at S) s, Steps.room g S s, 17) ∷ []) ((refl, refl), ((refl, refl), ((room-same S s, refl), tt))))
@@ -337,9 +339,9 @@ module _ (g : Code) where
       let p = S .servers s in
       let t = top-tag x (p .history) in
       cond-same turn-at _ (Steps.from-history g p x && (not (Steps.from-symbol g p x f) || f .first-way)) _ _ (turn (Value (kept g (p .history) x t) t 1) S) (cond (Steps.from-symbol g p x f) (turn (Value (f .value) (p .own x) 2) S) (Steps.open-read g S s x))
-        (ap₂ (λ (a b : Bool). a && (not b || f .first-way)) (from-history-same p x) (from-symbol-same p x f))
-        (ap (λ u. turns.turn (turns.Valued (history.value-under (g .w) (map entry-at (p .history)) x u) u 1) (state-at S)) (top-at x (p .history)) ∙ ap (λ v. turns.turn (turns.Valued v (tag-at t) 1) (state-at S)) (value-at g (p .history) x t))
-        (cond-same turn-at _ (Steps.from-symbol g p x f) _ _ (turn (Value (f .value) (p .own x) 2) S) (Steps.open-read g S s x) (from-symbol-same p x f) refl (open-read-same S s x))
+      (ap₂ (λ (a b : Bool). a && (not b || f .first-way)) (from-history-same p x) (from-symbol-same p x f))
+      (ap (λ u. turns.turn (turns.Valued (history.value-under (g .w) (map entry-at (p .history)) x u) u 1) (state-at S)) (top-at x (p .history)) ∙ ap (λ v. turns.turn (turns.Valued v (tag-at t) 1) (state-at S)) (value-at g (p .history) x t))
+      (cond-same turn-at _ (Steps.from-symbol g p x f) _ _ (turn (Value (f .value) (p .own x) 2) S) (Steps.open-read g S s x) (from-symbol-same p x f) refl (open-read-same S s x))
 
   pub read-same : (S : State) (s x l : ℕ) (f : Found) → reading-rule.read (layout-of g) (state-at S) s x l f ≡ turn-at (Steps.read g S s x l f)
   unfolding reading-rule.read Steps.read reading-rule.read-refusal Steps.read-refusal

@@ -1,29 +1,27 @@
 -- The steps of the rules on the view of a ranked state are the view of the ranked steps: collect, encode, sweep and deliver.
-use mathlib.Core.Path.{_≡_, refl, sym, ap, ap₂, _∙_, subst, fun-ext}
+use mathlib.Core.Path.{_≡_, refl, sym, ap, ap₂, _∙_, fun-ext}
 use mathlib.Core.List.{List, [], _∷_, _++_, map}
 use mathlib.Core.Bool.{Bool, true, false, cond, _&&_, _||_, not}
-use mathlib.Core.Logic.{_⊎_, inl, inr, ⊎-elim}
-use Prim.Native.Nat.{ℕ, zero, suc, _+_, _-_, _*_, _/_, _%_, _<_, _≤_, min, max}
+use Prim.Native.Nat.{ℕ, zero, suc, _+_, _-_, _<_, _≤_}
 use native.Mathlib.Omega.{arith}
-use lib.Dec.{eqb, ltb, leb}
-use lib.ListN.{length, getD, take, drop, length-map}
+use lib.Dec.{eqb, ltb}
+use lib.ListN.{length, getD, length-map}
 use Rattle.std.specs.shelf.Lists.{kept-by}
 use Rattle.std.specs.declared.option.Option.{Option}
 use Rattle.std.specs.declared.option.Option.the-variants.{None, Some}
 use Rattle.std.proofs.shelf.Ways.{tells}
-use Rattle.std.proofs.shelf.Tests.{cases-bool, cond-true, cond-false, cond-both, ltb-true, lt-ltb, eqb-true, and-parts, both-ways, not-true}
+use Rattle.std.proofs.shelf.Tests.{cond-true, cond-false, ltb-true, lt-ltb, and-parts, both-ways, not-true}
 use Rattle.std.proofs.shelf.Lists.{map-append}
 use Rattle.terms.specs.Lists.{listed}
-use Rattle.terms.specs.declared.refusal.Refusal.{Refusal}
 use Rattle.message.specs.declared.tag.Tag as declared
 use Rattle.message.specs.Tags.{zero-tag, lower, same}
-use Rattle.message.specs.Meanings.{Meaning, write-notice, tag-notice, question, plain-reply, coded-reply}
-use Rattle.rules.specs.Words.{upd, every, some, first-below}
+use Rattle.message.specs.Meanings.{Meaning, plain-reply, coded-reply}
+use Rattle.rules.specs.Words.{upd, every}
 use Rattle.rules.specs.Lanes as lanes
-use Rattle.rules.specs.Lanes.{posted, spread, taken, free}
+use Rattle.rules.specs.Lanes.{posted, spread, taken}
 use Rattle.rules.specs.Histories as history
 use Rattle.rules.specs.State as model
-use Rattle.rules.specs.State.{Free, Open, Answered}
+use Rattle.rules.specs.State.{Open}
 use Rattle.rules.specs.Turns as turns
 use Rattle.rules.specs.Turns.{Found}
 use Rattle.rules.specs.Updates as updates
@@ -31,15 +29,15 @@ use Rattle.rules.specs.Writing as writing
 use Rattle.rules.specs.Reading as reading-rule
 use Rattle.rules.specs.Encoding as encoding
 use Rattle.rules.specs.Delivering as delivering
-use Rattle.rules.proofs.RankedMessages.{Message, Written, Tagged, Question, Plain, Coded, tag, height, server}
+use Rattle.rules.proofs.RankedMessages.{Message, Written, Tagged, Question, Plain, Coded, tag}
 use Rattle.rules.proofs.Unranked.{tag-at, message-at}
-use Rattle.rules.proofs.RankedWords.{seek, lowest, Lanes}
-use Rattle.rules.proofs.Ranked.{Code, layout-of, Entry, Waiting, Read, Server, State, has, zeros, swap, same-entry, holds, kept, highest, top-tag, is-open, no-read, clients, slots, depth, queue, most-reads}
+use Rattle.rules.proofs.RankedWords.{lowest, Lanes}
+use Rattle.rules.proofs.Ranked.{Code, layout-of, Entry, Waiting, Read, Server, State, has, swap, same-entry, holds, kept, highest, top-tag, is-open, no-read, clients, slots, queue, most-reads}
 use Rattle.rules.proofs.RankedSteps as Steps
-use Rattle.rules.proofs.RankedSteps.{Answer, Refused, Tag, Value, Number, Still, Nothing, Outcome, Count, Turn, turn}
+use Rattle.rules.proofs.RankedSteps.{Tag, Value, Still, Outcome, Count, Turn, turn}
 use Rattle.rules.proofs.Words.{seek-found}
 use Rattle.rules.proofs.Calls.{checked}
-use Rattle.rules.proofs.View.{entry-at, waiting-at, asking-at, given-at, read-at, server-at, lanes-at, state-at, refusal-of, refusal-at, answer-at, turn-at, cond-at, upd-at, getD-at, take-at, drop-at, listed-at, kept-by-at, every-same, some-same, lower-at, same-at, above-at, tag-made, lowest-at, has-entry-at, holds-at, value-at, highest-at, top-at, Shape, shape-free, shape-open, shape-answered, shape, posted-at, spread-at, taken-at, lanes-free-at, first-at}
+use Rattle.rules.proofs.View.{entry-at, waiting-at, asking-at, read-at, server-at, state-at, refusal-of, refusal-at, turn-at, upd-at, getD-at, listed-at, kept-by-at, every-same, some-same, lower-at, same-at, above-at, tag-made, lowest-at, holds-at, value-at, highest-at, top-at, Shape, shape-free, shape-open, shape-answered, shape, posted-at, spread-at, taken-at, first-at}
 use Rattle.rules.proofs.Same.{unless-at, cond-same, cond-above, entered-same, queued-same, sifted-same, reading-same, hearing-same, moved-same, is-open-same, has-number-same, is-open-as-same, asks-same, put-same, chain-at, history-room-same, room-same, open-done-same}
 
 -- a place found in the view is that found in the ranked state
@@ -61,6 +59,7 @@ module _ (g : Code) where
     where
       r : Read
       r = S .servers s .reads i
+
       by : Shape (S .servers s .reads i) → reading-rule.collect-read (layout-of g) (state-at S) s i (read-at (S .servers s .reads i))
           ≡ turn-at (cond (is-open (S .servers s .reads i)) (turn Still S) (turn (Value (S .servers s .reads i .value) (S .servers s .reads i .tag) (S .servers s .reads i .way)) (Steps.collect-done g S s i)))
       by (shape-free q w e) = absurd (both-ways (eqb (S .servers s .reads i .state) 0) used q)
@@ -128,25 +127,25 @@ module _ (g : Code) where
       let enters = Steps.unless (Steps.check (Steps.history-room g S s) 15 0) S entering in
       let moves = Steps.unless (Steps.check (Steps.room g S s) 17 0) S moving in
       ap (λ (u : declared.Tag). cond (lower (tag-at own) u)
-           (cond (history.holds (map entry-at (p .history)) x (tag-at own))
-             (turns.unless (turns.check (writing.room (layout-of g) (state-at S) s) (refusal-of 17) None) (state-at S) (turns.turn (turns.Outcome 1) (encoding.move-done (layout-of g) (state-at S) s x u (encoding.turned (layout-of g) s (server-at p) x (tag-at own) u (p .symbol)))))
-           (cond (updates.is-open (read-at (p .reads (clients + x)))) (turns.turn (turns.Outcome 2) (state-at S))
-           (cond (f .recovered)
-             (turns.unless (turns.check (writing.history-room (state-at S) s) (refusal-of 15) None) (state-at S) (turns.turn (turns.Outcome 3) (encoding.enter-done (layout-of g) (state-at S) s (record { object = x; tag = tag-at own; value = f .value }))))
-             (turns.unless (turns.check (ltb (p .opened) most-reads) (refusal-of 14) (turns.check (writing.room (layout-of g) (state-at S) s) (refusal-of 17) None)) (state-at S) (turns.turn (turns.Outcome 4) (reading-rule.open-done (layout-of g) (state-at S) s (clients + x) x))))))
-           (turns.turn (turns.Outcome 0) (state-at S))) (top-at x (p .history))
+      (cond (history.holds (map entry-at (p .history)) x (tag-at own))
+      (turns.unless (turns.check (writing.room (layout-of g) (state-at S) s) (refusal-of 17) None) (state-at S) (turns.turn (turns.Outcome 1) (encoding.move-done (layout-of g) (state-at S) s x u (encoding.turned (layout-of g) s (server-at p) x (tag-at own) u (p .symbol)))))
+      (cond (updates.is-open (read-at (p .reads (clients + x)))) (turns.turn (turns.Outcome 2) (state-at S))
+      (cond (f .recovered)
+      (turns.unless (turns.check (writing.history-room (state-at S) s) (refusal-of 15) None) (state-at S) (turns.turn (turns.Outcome 3) (encoding.enter-done (layout-of g) (state-at S) s (record { object = x; tag = tag-at own; value = f .value }))))
+      (turns.unless (turns.check (ltb (p .opened) most-reads) (refusal-of 14) (turns.check (writing.room (layout-of g) (state-at S) s) (refusal-of 17) None)) (state-at S) (turns.turn (turns.Outcome 4) (reading-rule.open-done (layout-of g) (state-at S) s (clients + x) x))))))
+      (turns.turn (turns.Outcome 0) (state-at S))) (top-at x (p .history))
       ∙ cond-above own t _ _ (cond (holds (p .history) x own) moves (cond (is-open (p .reads (clients + x))) (turn (Outcome 2) S) (cond (f .recovered) enters opens))) (turn (Outcome 0) S)
-          (cond-same turn-at _ (holds (p .history) x own) _ _ moves (cond (is-open (p .reads (clients + x))) (turn (Outcome 2) S) (cond (f .recovered) enters opens)) (holds-at (p .history) x own)
-            (one-check _ (Steps.room g S s) 17 S _ moving refl (room-same g S s)
-              (ap (λ v. turns.turn (turns.Outcome 1) (encoding.move-done (layout-of g) (state-at S) s x (tag-at t) v)) (turned-same s p x own t (p .symbol))
-               ∙ ap (turns.turn (turns.Outcome 1)) (move-done-same S s x t (swap g s x (kept g (p .history) x own) (kept g (p .history) x t) (p .symbol)))))
-            (cond-same turn-at _ (is-open (p .reads (clients + x))) _ _ (turn (Outcome 2) S) (cond (f .recovered) enters opens) (is-open-same (p .reads (clients + x))) refl
-              (cond-same turn-at (f .recovered) (f .recovered) _ _ enters opens refl
-                (one-check _ (Steps.history-room g S s) 15 S _ entering refl (history-room-same S s) (ap (turns.turn (turns.Outcome 3)) (enter-done-same S s (record { object = x; tag = own; value = f .value }))))
-                (unless-at (Steps.check (ltb (p .opened) most-reads) 14 (Steps.check (Steps.room g S s) 17 0)) _ S _ asking
-                  (chain-at ((ltb (p .opened) most-reads, ltb (p .opened) most-reads, 14) ∷ (writing.room (layout-of g) (state-at S) s, Steps.room g S s, 17) ∷ []) ((refl, refl), ((room-same g S s, refl), tt)))
-                  (λ _. ap (turns.turn (turns.Outcome 4)) (open-done-same g S s (clients + x) x))))))
-          refl
+      (cond-same turn-at _ (holds (p .history) x own) _ _ moves (cond (is-open (p .reads (clients + x))) (turn (Outcome 2) S) (cond (f .recovered) enters opens)) (holds-at (p .history) x own)
+      (one-check _ (Steps.room g S s) 17 S _ moving refl (room-same g S s)
+      (ap (λ v. turns.turn (turns.Outcome 1) (encoding.move-done (layout-of g) (state-at S) s x (tag-at t) v)) (turned-same s p x own t (p .symbol))
+      ∙ ap (turns.turn (turns.Outcome 1)) (move-done-same S s x t (swap g s x (kept g (p .history) x own) (kept g (p .history) x t) (p .symbol)))))
+      (cond-same turn-at _ (is-open (p .reads (clients + x))) _ _ (turn (Outcome 2) S) (cond (f .recovered) enters opens) (is-open-same (p .reads (clients + x))) refl
+      (cond-same turn-at (f .recovered) (f .recovered) _ _ enters opens refl
+      (one-check _ (Steps.history-room g S s) 15 S _ entering refl (history-room-same S s) (ap (turns.turn (turns.Outcome 3)) (enter-done-same S s (record { object = x; tag = own; value = f .value }))))
+      (unless-at (Steps.check (ltb (p .opened) most-reads) 14 (Steps.check (Steps.room g S s) 17 0)) _ S _ asking
+      (chain-at ((ltb (p .opened) most-reads, ltb (p .opened) most-reads, 14) ∷ (writing.room (layout-of g) (state-at S) s, Steps.room g S s, 17) ∷ []) ((refl, refl), ((room-same g S s, refl), tt)))
+      (λ _. ap (turns.turn (turns.Outcome 4)) (open-done-same g S s (clients + x) x))))))
+      refl
 
   within-same : (p : Server) (x t : ℕ) → encoding.within (layout-of g) (server-at p) x (tag-at t) ≡ Steps.within g p x t
   within-same p x t = every-same (g .n) _ _ (λ j. ap (λ b. not (has g j x) || b) (above-at (p .told x j) t))
@@ -158,10 +157,10 @@ module _ (g : Code) where
       let t = highest (Steps.within g p x) x (p .history) in
       let moving = turn (Outcome 1) (Steps.move-done g S s x t (p .symbol)) in
       ap (λ (u : declared.Tag). cond (lower (tag-at (p .own x)) u)
-          (turns.unless (turns.check (writing.room (layout-of g) (state-at S) s) (refusal-of 17) None) (state-at S) (turns.turn (turns.Outcome 1) (encoding.move-done (layout-of g) (state-at S) s x u (p .symbol))))
-          (turns.turn (turns.Outcome 0) (state-at S))) (highest-at (encoding.within (layout-of g) (server-at p) x) (Steps.within g p x) (within-same p x) x (p .history))
+      (turns.unless (turns.check (writing.room (layout-of g) (state-at S) s) (refusal-of 17) None) (state-at S) (turns.turn (turns.Outcome 1) (encoding.move-done (layout-of g) (state-at S) s x u (p .symbol))))
+      (turns.turn (turns.Outcome 0) (state-at S))) (highest-at (encoding.within (layout-of g) (server-at p) x) (Steps.within g p x) (within-same p x) x (p .history))
       ∙ cond-above (p .own x) t _ _ (Steps.unless (Steps.check (Steps.room g S s) 17 0) S moving) (turn (Outcome 0) S)
-          (one-check _ (Steps.room g S s) 17 S _ moving refl (room-same g S s) (ap (turns.turn (turns.Outcome 1)) (move-done-same S s x t (p .symbol)))) refl
+      (one-check _ (Steps.room g S s) 17 S _ moving refl (room-same g S s) (ap (turns.turn (turns.Outcome 1)) (move-done-same S s x t (p .symbol)))) refl
 
   pub encode-same : (S : State) (s x : ℕ) (f : Found) → encoding.encode (layout-of g) (state-at S) s x f ≡ turn-at (Steps.encode g S s x f)
   unfolding encoding.encode Steps.encode
@@ -185,9 +184,9 @@ module _ (g : Code) where
   swept-same p x =
       let es = kept-by (Steps.stays g p x) (p .history) in
       ap (λ l. cond (encoding.settled (layout-of g) (server-at p) x l) (kept-by (λ e. not (history.is-entry x (tag-at (p .own x)) e)) l) l)
-         (kept-by-at entry-at (encoding.stays (layout-of g) (server-at p) x) (Steps.stays g p x) (stays-same p x) (p .history))
+      (kept-by-at entry-at (encoding.stays (layout-of g) (server-at p) x) (Steps.stays g p x) (stays-same p x) (p .history))
       ∙ cond-same (map entry-at) _ (Steps.settled g p x es) _ _ (kept-by (λ e. not (same-entry x (p .own x) e)) es) es (settled-same p x es)
-          (kept-by-at entry-at (λ e. not (history.is-entry x (tag-at (p .own x)) e)) (λ e. not (same-entry x (p .own x) e)) (λ e. ap (λ b. not (eqb (e .object) x && b)) (same-at (e .tag) (p .own x))) es) refl
+      (kept-by-at entry-at (λ e. not (history.is-entry x (tag-at (p .own x)) e)) (λ e. not (same-entry x (p .own x) e)) (λ e. ap (λ b. not (eqb (e .object) x && b)) (same-at (e .tag) (p .own x))) es) refl
 
   sweep-done-same : (S : State) (s x : ℕ) → encoding.sweep-done (layout-of g) (state-at S) s x ≡ state-at (Steps.sweep-done g S s x)
   unfolding encoding.sweep-done Steps.sweep-done
@@ -200,7 +199,7 @@ module _ (g : Code) where
       let p = S .servers s in
       unless-at (Steps.object-refusal g s x) _ S _ (turn (Count (length (p .history) - length (Steps.swept g p x))) (Steps.sweep-done g S s x)) (object-refusal-same s x)
       (λ _. ap₂ (λ (c : ℕ) (T : model.State). turns.turn (turns.Removed c) T)
-          (ap₂ (λ (a b : ℕ). a - b) (length-map (p .history) entry-at) (ap length (swept-same p x) ∙ length-map (Steps.swept g p x) entry-at)) (sweep-done-same S s x))
+      (ap₂ (λ (a b : ℕ). a - b) (length-map (p .history) entry-at) (ap length (swept-same p x) ∙ length-map (Steps.swept g p x) entry-at)) (sweep-done-same S s x))
 
   -- ---- deliver
   take-done-same : (S : State) (a b : ℕ) (p : model.Server) (q : Server) → p ≡ server-at q → delivering.take-done (layout-of g) (state-at S) a b p ≡ state-at (Steps.take-done g S a b q)
@@ -221,7 +220,7 @@ module _ (g : Code) where
   restated-same s p T (suc y) =
       let u = getD T y 0 in
       ap₂ (λ (z : declared.Tag) (v : List ℕ). cond (delivering.exchanges (layout-of g) s (server-at p) y z) (encoding.turned (layout-of g) s (server-at p) y (tag-at (p .own y)) (delivering.stated (layout-of g) s (server-at p) y z) v) v)
-         (getD-at tag-at T y 0) (restated-same s p T y)
+      (getD-at tag-at T y 0) (restated-same s p T y)
       ∙ ap₂ (λ (b : Bool) (w : declared.Tag). cond b (encoding.turned (layout-of g) s (server-at p) y (tag-at (p .own y)) w (Steps.mixed g s p T y)) (Steps.mixed g s p T y)) (exchanges-same s p y u) (stated-same s p y u)
       ∙ ap (λ v. cond (Steps.exchanges g s p y u) v (Steps.mixed g s p T y)) (turned-same s p y (p .own y) (Steps.states g s p y u) (Steps.mixed g s p T y))
 
@@ -248,11 +247,11 @@ module _ (g : Code) where
       let p = S .servers b in
       let e : Entry = record { object = r .object; tag = r .tags (r .object); value = v } in
       cond-same turn-at (ltb i clients) (ltb i clients) _ _ (turn (Outcome 4) (Steps.take-done g S a b (Steps.client-answer g p i r v))) (Steps.unless (Steps.check (Steps.history-room g S b) 15 0) S (turn (Outcome 4) (Steps.take-done g S a b (Steps.internal-answer g p i r v)))) refl
-        (ap (turns.turn (turns.Outcome 4)) (take-done-same S a b _ (Steps.client-answer g p i r v)
-          (ap (updates.reading (server-at p)) (upd-at read-at (p .reads) i (Steps.answered r v (r .tags (r .object)) 3)) ∙ reading-same p (upd (p .reads) i (Steps.answered r v (r .tags (r .object)) 3)))))
-        (one-check _ (Steps.history-room g S b) 15 S _ (turn (Outcome 4) (Steps.take-done g S a b (Steps.internal-answer g p i r v))) refl (history-room-same S b)
-          (ap (turns.turn (turns.Outcome 4)) (take-done-same S a b _ (Steps.internal-answer g p i r v)
-            (ap₂ updates.reading (entered-same p e) (upd-at read-at (p .reads) i no-read) ∙ reading-same (Steps.entered p e) (upd (p .reads) i no-read)))))
+      (ap (turns.turn (turns.Outcome 4)) (take-done-same S a b _ (Steps.client-answer g p i r v)
+      (ap (updates.reading (server-at p)) (upd-at read-at (p .reads) i (Steps.answered r v (r .tags (r .object)) 3)) ∙ reading-same p (upd (p .reads) i (Steps.answered r v (r .tags (r .object)) 3)))))
+      (one-check _ (Steps.history-room g S b) 15 S _ (turn (Outcome 4) (Steps.take-done g S a b (Steps.internal-answer g p i r v))) refl (history-room-same S b)
+      (ap (turns.turn (turns.Outcome 4)) (take-done-same S a b _ (Steps.internal-answer g p i r v)
+      (ap₂ updates.reading (entered-same p e) (upd-at read-at (p .reads) i no-read) ∙ reading-same (Steps.entered p e) (upd (p .reads) i no-read)))))
 
   -- the objects below y can be mended
   abbrev mends-at : Server → ℕ → Read → List ℕ → ℕ → Bool
@@ -311,8 +310,8 @@ module _ (g : Code) where
         let unused = turn (Outcome 5) (Steps.take-done g S a b p) in
         ap (delivering.plain-at (layout-of g) (state-at S) a b v) (open-place-same p m)
         ∙ by-place slots i (ltb i slots) (delivering.plain-at (layout-of g) (state-at S) a b v) (turn-at (cond (ltb i slots) used unused)) refl
-            (λ lt. ap (delivering.plain-to (layout-of g) (state-at S) a b i v) (seen-open (p .reads i) (slot-open p m lt)) ∙ settle-same S a b i (p .reads i) v ∙ ap turn-at (sym (cond-true (ltb i slots) used unused (lt-ltb i slots lt))))
-            (λ e. dropped-same ∙ ap turn-at (sym (cond-false (ltb i slots) used unused e)))
+        (λ lt. ap (delivering.plain-to (layout-of g) (state-at S) a b i v) (seen-open (p .reads i) (slot-open p m lt)) ∙ settle-same S a b i (p .reads i) v ∙ ap turn-at (sym (cond-true (ltb i slots) used unused (lt-ltb i slots lt))))
+        (λ e. dropped-same ∙ ap turn-at (sym (cond-false (ltb i slots) used unused e)))
 
     symbol-same : (i : ℕ) (r : Read) (v st : List ℕ) (f : Found) → is-open r ≡ true → delivering.by-symbol (layout-of g) (state-at S) a b i (asking-at r) f (delivering.mended (layout-of g) (server-at (S .servers b)) a (asking-at r) v (map tag-at st) (g .k))
         ≡ turn-at (let p = S .servers b in let w = Steps.in-hand r a (Steps.mended g p a r v st (g .k)) in cond (Steps.mendable g p a r st) (cond (f .recovered) (Steps.settle g S a b i w (f .value)) (turn (Outcome 3) (Steps.take-done g S a b (Steps.reading p (upd (p .reads) i w))))) (turn (Outcome 6) (Steps.take-done g S a b p)))
@@ -325,9 +324,9 @@ module _ (g : Code) where
             let w = Steps.in-hand r a (Steps.mended g p a r v st (g .k)) in
             let wo : is-open w ≡ true = o in
             cond-same turn-at (f .recovered) (f .recovered) _ _ (Steps.settle g S a b i w (f .value)) (turn (Outcome 3) (Steps.take-done g S a b (Steps.reading p (upd (p .reads) i w)))) refl
-              (settle-same S a b i w (f .value))
-              (ap (turns.turn (turns.Outcome 3)) (take-done-same S a b _ (Steps.reading p (upd (p .reads) i w))
-                (ap (updates.reading (server-at p)) (ap (upd (λ k. read-at (p .reads k)) i) (sym (seen-open w wo)) ∙ upd-at read-at (p .reads) i w) ∙ reading-same p (upd (p .reads) i w))))
+            (settle-same S a b i w (f .value))
+            (ap (turns.turn (turns.Outcome 3)) (take-done-same S a b _ (Steps.reading p (upd (p .reads) i w))
+            (ap (updates.reading (server-at p)) (ap (upd (λ k. read-at (p .reads k)) i) (sym (seen-open w wo)) ∙ upd-at read-at (p .reads) i w) ∙ reading-same p (upd (p .reads) i w))))
         by false = ap (turns.turn (turns.Outcome 6)) (take-done-same S a b (server-at (S .servers b)) (S .servers b) refl)
 
     coded-same : (m : ℕ) (v st : List ℕ) (f : Found) → delivering.coded-at (layout-of g) (state-at S) a b v (map tag-at st) f (delivering.open-place (server-at (S .servers b)) m) ≡ turn-at (Steps.got g S a b (Coded m v st) f)
@@ -341,8 +340,8 @@ module _ (g : Code) where
         let unused = turn (Outcome 5) (Steps.take-done g S a b p) in
         ap (delivering.coded-at (layout-of g) (state-at S) a b v (map tag-at st) f) (open-place-same p m)
         ∙ by-place slots i (ltb i slots) (delivering.coded-at (layout-of g) (state-at S) a b v (map tag-at st) f) (turn-at (cond (ltb i slots) used unused)) refl
-            (λ lt. ap (delivering.coded-to (layout-of g) (state-at S) a b i v (map tag-at st) f) (seen-open r (slot-open p m lt)) ∙ symbol-same i r v st f (slot-open p m lt) ∙ ap turn-at (sym (cond-true (ltb i slots) used unused (lt-ltb i slots lt))))
-            (λ e. dropped-same ∙ ap turn-at (sym (cond-false (ltb i slots) used unused e)))
+        (λ lt. ap (delivering.coded-to (layout-of g) (state-at S) a b i v (map tag-at st) f) (seen-open r (slot-open p m lt)) ∙ symbol-same i r v st f (slot-open p m lt) ∙ ap turn-at (sym (cond-true (ltb i slots) used unused (lt-ltb i slots lt))))
+        (λ e. dropped-same ∙ ap turn-at (sym (cond-false (ltb i slots) used unused e)))
 
     got-same : a < 6 → (m : Message) (f : Found) → delivering.got (layout-of g) (state-at S) a b (message-at m) f ≡ turn-at (Steps.got g S a b m f)
     unfolding delivering.got Steps.got
@@ -350,14 +349,14 @@ module _ (g : Code) where
         let p = S .servers b in
         let w : Waiting = record { object = x; tag = tag h a; value = v; clock = ck } in
         one-check _ (ltb (length (p .waiting)) queue) 18 S _ (turn (Outcome 0) (Steps.take-done g S a b (Steps.queued p (p .waiting ++ w ∷ [])))) refl (ap (λ k. ltb k queue) (length-map (p .waiting) waiting-at))
-          (ap (turns.turn (turns.Outcome 0)) (take-done-same S a b _ (Steps.queued p (p .waiting ++ w ∷ []))
-            (ap (λ (t : declared.Tag). updates.queued (server-at p) (map waiting-at (p .waiting) ++ (let z : model.Waiting = record { object = x; tag = t; value = v; clock = ck } in z) ∷ [])) (tag-made h a lt)
-             ∙ ap (updates.queued (server-at p)) (sym (map-append waiting-at (p .waiting) (w ∷ []))) ∙ queued-same p (p .waiting ++ w ∷ []))))
+        (ap (turns.turn (turns.Outcome 0)) (take-done-same S a b _ (Steps.queued p (p .waiting ++ w ∷ []))
+        (ap (λ (t : declared.Tag). updates.queued (server-at p) (map waiting-at (p .waiting) ++ (let z : model.Waiting = record { object = x; tag = t; value = v; clock = ck } in z) ∷ [])) (tag-made h a lt)
+        ∙ ap (updates.queued (server-at p)) (sym (map-append waiting-at (p .waiting) (w ∷ []))) ∙ queued-same p (p .waiting ++ w ∷ []))))
     got-same lt (Tagged x t) f = ap (turns.turn (turns.Outcome 0)) (take-done-same S a b _ (Steps.tells (S .servers b) x a t) (hearing-same (S .servers b) x a t))
     got-same lt (Question m x T) f =
         let p = S .servers b in
         one-check _ (ltb (length (S .lanes b a)) (g .places)) 17 S _ (turn (Outcome (cond (holds (p .history) x (getD T x 0)) 1 2)) (Steps.question-done g S a b (Steps.reply g b p m x T))) refl (ap (λ k. ltb k (g .places)) (length-map (S .lanes b a) message-at))
-          (ap₂ (λ (c : Bool) (T : model.State). turns.turn (turns.Outcome (cond c 1 2)) T) (asked-held p x T) (question-done-same S a b (Steps.reply g b p m x T) _ (reply-same b p m x T)))
+        (ap₂ (λ (c : Bool) (T : model.State). turns.turn (turns.Outcome (cond c 1 2)) T) (asked-held p x T) (question-done-same S a b (Steps.reply g b p m x T) _ (reply-same b p m x T)))
     got-same lt (Plain m v) f = plain-same m v f
     got-same lt (Coded m v st) f = coded-same m v st f
 
@@ -372,5 +371,5 @@ module _ (g : Code) where
   deliver-same few S a b f =
       let ends = ltb a (g .n) && ltb b (g .n) in
       unless-at (Steps.check ends 7 (Steps.check (not (eqb a b)) 12 0)) _ S _ (Steps.oldest g S a b (S .lanes a b) f)
-        (chain-at ((ends, ends, 7) ∷ (not (eqb a b), not (eqb a b), 12) ∷ []) ((refl, refl), ((refl, refl), tt)))
-        (λ e. let l = ltb-true a (g .n) (and-parts (ltb a (g .n)) (ltb b (g .n)) (checked ends 7 _ (omega arith) e .0) .0) in oldest-same S a b (omega arith) (S .lanes a b) f)
+      (chain-at ((ends, ends, 7) ∷ (not (eqb a b), not (eqb a b), 12) ∷ []) ((refl, refl), ((refl, refl), tt)))
+      (λ e. let l = ltb-true a (g .n) (and-parts (ltb a (g .n)) (ltb b (g .n)) (checked ends 7 _ (omega arith) e .0) .0) in oldest-same S a b (omega arith) (S .lanes a b) f)

@@ -1,37 +1,25 @@
 -- Where entries and tags come from: a claim on every entry, and one on every tag of an object, that every call keeps.
-use mathlib.Core.Path.{_≡_, refl, sym, ap, _∙_, subst}
+use mathlib.Core.Path.{_≡_, refl, subst}
 use mathlib.Core.List.{List, [], _∷_, _++_}
 use mathlib.Core.Bool.{Bool, true, false, cond, _&&_, _||_, not}
 use mathlib.Core.Logic.{_⊎_, inl, inr, ⊎-elim}
-use Prim.Native.Nat.{ℕ, zero, suc, _+_, _-_, _<_, _≤_, min, max}
+use Prim.Native.Nat.{ℕ, zero, suc, _+_, _-_, _<_}
 use native.Mathlib.Omega.{arith}
 use lib.Dec.{eqb, ltb, leb}
 use lib.ListN.{getD, length, take, drop}
-use Rattle.std.specs.shelf.Lists.{kept-by}
-use Rattle.std.proofs.shelf.Ways.{tells}
-use Rattle.std.proofs.shelf.Tests.{both-ways, cases-bool, cases-eq, cases-order, cases-lt, eq-eqb, ne-eqb, eqb-true, eqb-false, ltb-true, ltb-false, leb-true, leb-false, lt-ltb, and-parts, and-from, and-cases, or-cases, or-parts, or-left, or-right, not-true, not-false, cond-both, cond-true, cond-false}
+use Rattle.std.specs.shelf.Lists.{kept-by, All}
+use Rattle.std.proofs.shelf.Tests.{both-ways, cases-eq, eqb-true, leb-false, and-parts, or-cases, cond-both}
 use Rattle.rules.proofs.RankedMessages.{Message, Written, Tagged, Question, Plain, Coded, tag, height, server}
-use Rattle.rules.proofs.RankedWords.{upd, listed, every, some, seek, lowest, Lanes, posted, spread, taken, free}
-use Rattle.rules.proofs.Core.{Core, heard, Good, Sound, Asked}
-use Rattle.rules.proofs.Ranked.{Code, Entry, Waiting, Read, Server, State, has, holds, enters, same-entry, kept, highest, top-tag, zeros, swap, is-open, core, slots, clients, depth, queue, most-writes, most-reads, most-height, no-read, fresh}
+use Rattle.rules.proofs.RankedWords.{upd, listed, Lanes, posted, spread, taken}
+use Rattle.rules.proofs.Ranked.{Code, Entry, Waiting, Read, Server, State, has, holds, enters, same-entry, kept, highest, top-tag, swap, is-open, slots, clients, queue, most-reads, no-read}
 use Rattle.std.specs.declared.option.Option.{Option}
 use Rattle.std.specs.declared.option.Option.the-variants.{None, Some}
-use Rattle.std.proofs.shelf.Counted.{getD-map-counting}
 use Rattle.rules.proofs.RankedSteps as Steps
-use Rattle.rules.proofs.RankedSteps.{Call, Write, Ask, Collect, Deliver, Apply, Encode, Sweep, Answer, Refused, Tag, Value, Number, Still, Nothing, Outcome, Count, Found, Turn, turn, check, unless, write-refusal, open-refusal, read-refusal, read-found, collect-refusal, collect-at, object-refusal, lane-refusal, put, entered, counted, queued, sifted, reading, tells as hearing, moved, new-read, opening, answered, in-hand, overtaken, Picked, room, history-room, elements, write-tag, write-done, write, open-done, free-slot, open-read, from-history, from-symbol, read, client-slot, collect-done, collect, wait-tag, next-ready, picked, apply-done, apply-picked, apply, move-done, enter-done, encode-contained, within, encode-other, encode, floor, wanted, stays, settled, swept, sweep-done, sweep, fits, states, mixed, reply, question-done, open-slot, take-done, internal-answer, client-answer, settle, mendable, mended, got, oldest, deliver, step, after, run}
-use Rattle.rules.proofs.Words.{upd-same, upd-other, upd-keeps, upd-each, every-at, every-from, some-from, seek-found, lowest-le, enters-push, holds-push, enters-sift, highest-found}
-use Rattle.rules.proofs.Carry.{Carry, good-carry}
-use Rattle.rules.proofs.Take.{Take, take-keeps}
-use Rattle.rules.proofs.Move
-use Rattle.rules.proofs.Move.{move-keeps}
-use Rattle.rules.proofs.Sweep
-use Rattle.rules.proofs.Sweep.{Idle, below, level, sweep-keeps}
-use Rattle.rules.proofs.Replies.{stated, opens, replies, counts, usable, starts}
-use Rattle.rules.proofs.Frames.{Slot, same, fresh-read, Mild, mild-self, spread-from, spread-else, taken-here, taken-else, with-lanes, Fine, fine-put, fine-spread, fine-post, fine-take}
-use Rattle.std.specs.shelf.Lists.{All}
-use Rattle.std.proofs.shelf.Elements.{all-push, all-drop, all-take, all-append, all-getD, all-kept-by, all-weaker}
-use Rattle.rules.proofs.Calls.{unless-both, checked, object-server, object-object}
-use Rattle.rules.proofs.Deliver.{lane-ends}
+use Rattle.rules.proofs.RankedSteps.{Tag, Value, Number, Still, Outcome, Count, Found, Turn, turn, check, unless, write-refusal, open-refusal, read-refusal, read-found, collect-refusal, collect-at, object-refusal, lane-refusal, entered, counted, queued, sifted, reading, tells as hearing, moved, new-read, opening, answered, in-hand, overtaken, Picked, room, history-room, write-tag, write-done, write, open-done, free-slot, open-read, from-history, from-symbol, read, client-slot, collect-done, collect, wait-tag, next-ready, picked, apply-done, apply-picked, apply, move-done, enter-done, encode-contained, within, encode-other, encode, stays, settled, swept, sweep-done, sweep, fits, states, mixed, reply, question-done, open-slot, take-done, internal-answer, client-answer, settle, mendable, mended, got, oldest, deliver}
+use Rattle.rules.proofs.Words.{upd-same, upd-other, highest-found}
+use Rattle.rules.proofs.Sweep.{below}
+use Rattle.std.proofs.shelf.Elements.{all-push, all-drop, all-take, all-append, all-getD, all-kept-by}
+use Rattle.rules.proofs.Calls.{unless-both, object-object}
 
 abbrev pub waited : Code → Waiting → Entry
 waited g v = record { object = v .object; tag = wait-tag g v; value = v .value }
@@ -49,8 +37,10 @@ next-picks g p ws (suc n) i = cond-both (Steps.ready g p (Steps.write-at ws n)) 
   where
     further : (j : ℕ) → Picks g p ws n j → Picks g p ws (suc n) j
     further j q = record { below = let l = q .below in omega arith; ready = q .ready }
+
     here : (j : ℕ) → Steps.ready g p (Steps.write-at ws n) ≡ true → _≡_ {A = Option ℕ} (Some n) (Some j) → Picks g p ws (suc n) j
     here j r e = let z : n ≡ j = cc in record { below = omega arith; ready = subst (λ k. Steps.ready g p (Steps.write-at ws k) ≡ true) z r }
+
     by : (o : Option ℕ) → ((j : ℕ) → o ≡ Some j → Picks g p ws n j) → Steps.ready g p (Steps.write-at ws n) ≡ true → Steps.better g ws o n ≡ Some i → Picks g p ws (suc n) i
     by None ih r = λ e. here i r e
     by (Some b) ih r = cond-both (ltb (Steps.write-at ws n .tag) (Steps.write-at ws b .tag)) (Some n) (Some b) (λ o. o ≡ Some i → Picks g p ws (suc n) i) (λ _ e. here i r e)
@@ -103,8 +93,11 @@ module _ (g : Code) (E : Entry → Type 0) (O : ℕ → ℕ → Type 0) (up : (e
       → Owner g E O (reading (entered (counted (queued p ws) j c h) e) (overtaken (p .reads) all x t v))
   unfolding reading entered counted queued
   write-owner p j c h ws e all x t v o new w = record {
-      own = o .own; history = all-push E (p .history) e (o .history) new; waiting = w
-    ; reads = λ i y. rw (overtaken-tags (p .reads) all x t v i) (o .reads i y) }
+    own = o .own;
+    history = all-push E (p .history) e (o .history) new;
+    waiting = w;
+    reads = λ i y. rw (overtaken-tags (p .reads) all x t v i) (o .reads i y);
+  }
 
   written-owner : (p : Server) (j c h : ℕ) (e : Entry) (all : Bool) (x t : ℕ) (v : List ℕ) → Owner g E O p → E e
       → Owner g E O (reading (entered (counted p j c h) e) (overtaken (p .reads) all x t v))
@@ -117,8 +110,10 @@ module _ (g : Code) (E : Entry → Type 0) (O : ℕ → ℕ → Type 0) (up : (e
     where
       picks : (o : Option ℕ) → ((i : ℕ) → o ≡ Some i → i < length ws) → Chosen g E O (Steps.pick g ws o)
       picks None lt = tt
-      picks (Some i) lt = (all-getD (λ v. E (waited g v)) ws i Steps.no-write (lt i refl) h,
-          all-append (λ v. E (waited g v)) (take i ws) (drop (suc i) ws) (all-take (λ v. E (waited g v)) i ws h) (all-drop (λ v. E (waited g v)) (suc i) ws h))
+      picks (Some i) lt = (
+        all-getD (λ v. E (waited g v)) ws i Steps.no-write (lt i refl) h,
+        all-append (λ v. E (waited g v)) (take i ws) (drop (suc i) ws) (all-take (λ v. E (waited g v)) i ws h) (all-drop (λ v. E (waited g v)) (suc i) ws h),
+      )
 
   -- ---- lanes
   spread-all : (L : Lanes) (i n : ℕ) (m : Message) → ((a b : ℕ) → All (Sent g E O a) (L a b)) → Sent g E O i m → (a b : ℕ) → All (Sent g E O a) (spread L i n m a b)
@@ -140,8 +135,9 @@ module _ (g : Code) (E : Entry → Type 0) (O : ℕ → ℕ → Type 0) (up : (e
 
   put-sourced : (S : State) (s : ℕ) (r : Server) (L : Lanes) → Sourced g E O S → Owner g E O r → ((a b : ℕ) → All (Sent g E O a) (L a b)) → Sourced g E O (record { servers = upd (S .servers) s r; lanes = L })
   put-sourced S s r L h o l = record {
-      servers = λ k. elim (cases-eq k s) [ inl e ↦ rw (e, upd-same (S .servers) s r) o | inr ne ↦ rw (upd-other (S .servers) s k r ne) (h .servers k) ]
-    ; lanes = l }
+    servers = λ k. elim (cases-eq k s) [ inl e ↦ rw (e, upd-same (S .servers) s r) o | inr ne ↦ rw (upd-other (S .servers) s k r ne) (h .servers k) ];
+    lanes = l;
+  }
 
   module _ (S : State) (h : Sourced g E O S) where
     pub write-sourced : (s x : ℕ) (v : List ℕ) → (write-refusal g S s x v ≡ 0 → E (record { object = x; tag = write-tag g (S .servers s) s; value = v })) → Kept (write g S s x v)
@@ -150,8 +146,8 @@ module _ (g : Code) (E : Entry → Type 0) (O : ℕ → ℕ → Type 0) (up : (e
         let p = S .servers s in
         let e : Entry = record { object = x; tag = write-tag g p s; value = v } in
         put-sourced S s (reading (entered (counted p s (p .clock s + 1) (p .top + 1)) e) (overtaken (p .reads) true x (write-tag g p s) v)) _ h
-          (written-owner p s (p .clock s + 1) (p .top + 1) e true x (write-tag g p s) v (h .servers s) (new ok))
-          (spread-all (S .lanes) s (g .n) (Written x v (p .top + 1) (listed (g .n) ((counted p s (p .clock s + 1) (p .top + 1)) .clock))) (h .lanes) (new ok)))
+        (written-owner p s (p .clock s + 1) (p .top + 1) e true x (write-tag g p s) v (h .servers s) (new ok))
+        (spread-all (S .lanes) s (g .n) (Written x v (p .top + 1) (listed (g .n) ((counted p s (p .clock s + 1) (p .top + 1)) .clock))) (h .lanes) (new ok)))
 
     picked-sourced : (s : ℕ) (o : Option Picked) → Chosen g E O o → Kept (apply-picked g S s o)
     unfolding apply-picked apply-done
@@ -160,7 +156,7 @@ module _ (g : Code) (E : Entry → Type 0) (O : ℕ → ℕ → Type 0) (up : (e
         let p = S .servers s in
         let v = b .write in
         put-sourced S s _ (S .lanes) h
-          (write-owner p (server (v .tag)) (getD (v .clock) (server (v .tag)) 0) (height (v .tag)) (b .others) (waited g v) false (v .object) (wait-tag g v) (v .value) (h .servers s) (c .0) (c .1)) (h .lanes))
+        (write-owner p (server (v .tag)) (getD (v .clock) (server (v .tag)) 0) (height (v .tag)) (b .others) (waited g v) false (v .object) (wait-tag g v) (v .value) (h .servers s) (c .0) (c .1)) (h .lanes))
 
     pub apply-sourced : (s : ℕ) → Kept (apply g S s)
     unfolding apply
@@ -201,7 +197,7 @@ module _ (g : Code) (E : Entry → Type 0) (O : ℕ → ℕ → Type 0) (up : (e
         let r = p .reads i in
         let out = turn (Value (r .value) (r .tag) (r .way)) (collect-done g S s i) in
         unless-both Kept (collect-refusal g S s m l) S (cond (is-open r) (turn Still S) out) h (λ _. cond-both (is-open r) (turn Still S) out Kept (λ _. h)
-          (λ _. put-sourced S s (reading p (upd (p .reads) i no-read)) (S .lanes) h (reading-owner p i no-read (h .servers s) none) (h .lanes)))
+        (λ _. put-sourced S s (reading p (upd (p .reads) i no-read)) (S .lanes) h (reading-owner p i no-read (h .servers s) none) (h .lanes)))
 
     sifted-owner : (p : Server) (es : List Entry) → Owner g E O p → All E es → Owner g E O (sifted p es)
     unfolding sifted
@@ -228,8 +224,11 @@ module _ (g : Code) (E : Entry → Type 0) (O : ℕ → ℕ → Type 0) (up : (e
     moved-owner : (p : Server) (s x t : ℕ) (v : List ℕ) → Owner g E O p → O x t → Owner g E O (moved p s x t v)
     unfolding moved
     moved-owner p s x t v o new = record {
-        own = λ y. elim (cases-eq y x) [ inl e ↦ rw (e, upd-same (p .own) x t) new | inr ne ↦ rw (upd-other (p .own) x y t ne) (o .own y) ]
-      ; history = o .history; waiting = o .waiting; reads = o .reads }
+      own = λ y. elim (cases-eq y x) [ inl e ↦ rw (e, upd-same (p .own) x t) new | inr ne ↦ rw (upd-other (p .own) x y t ne) (o .own y) ];
+      history = o .history;
+      waiting = o .waiting;
+      reads = o .reads;
+    }
 
     move-sourced : (s x : ℕ) (f : ℕ → Bool) (v : List ℕ) → x < g .k → leb (highest f x (S .servers s .history)) (S .servers s .own x) ≡ false → Sourced g E O (move-done g S s x (highest f x (S .servers s .history)) v)
     unfolding move-done
@@ -262,15 +261,15 @@ module _ (g : Code) (E : Entry → Type 0) (O : ℕ → ℕ → Type 0) (up : (e
         let other = cond (leb u (p .own x)) (turn (Outcome 0) S) (unless (check (room g S s) 17 0) S other-move) in
         let contained = cond (leb t (p .own x)) (turn (Outcome 0) S) second in
         unless-both Kept (object-refusal g s x) S (cond (has g s x) contained other) h (λ ok. cond-both (has g s x) contained other Kept
-          (λ i. cond-both (leb t (p .own x)) (turn (Outcome 0) S) second Kept (λ _. h) (λ hi.
-            cond-both (holds (p .history) x (p .own x)) moving third Kept
-              (λ _. unless-both Kept (check (room g S s) 17 0) S move h (λ _. move-sourced s x (λ _. true) sym′ (object-object g s x ok) hi))
-            (λ _. cond-both (is-open (p .reads (clients + x))) (turn (Outcome 2) S) fourth Kept (λ _. h)
-            (λ _. cond-both (f .recovered) entering asking Kept
-              (λ q. unless-both Kept (check (history-room g S s) 15 0) S enter h (λ _. put-sourced S s (entered p e) (S .lanes) h (entered-owner p e (h .servers s) (decoded ok i q)) (h .lanes)))
-              (λ _. unless-both Kept (check (ltb (p .opened) most-reads) 14 (check (room g S s) 17 0)) S ask h (λ _. open-sourced s (clients + x) x))))))
-          (λ _. cond-both (leb u (p .own x)) (turn (Outcome 0) S) (unless (check (room g S s) 17 0) S other-move) Kept (λ _. h) (λ hi.
-            unless-both Kept (check (room g S s) 17 0) S other-move h (λ _. move-sourced s x (within g p x) (p .symbol) (object-object g s x ok) hi))))
+        (λ i. cond-both (leb t (p .own x)) (turn (Outcome 0) S) second Kept (λ _. h) (λ hi.
+        cond-both (holds (p .history) x (p .own x)) moving third Kept
+        (λ _. unless-both Kept (check (room g S s) 17 0) S move h (λ _. move-sourced s x (λ _. true) sym′ (object-object g s x ok) hi))
+        (λ _. cond-both (is-open (p .reads (clients + x))) (turn (Outcome 2) S) fourth Kept (λ _. h)
+        (λ _. cond-both (f .recovered) entering asking Kept
+        (λ q. unless-both Kept (check (history-room g S s) 15 0) S enter h (λ _. put-sourced S s (entered p e) (S .lanes) h (entered-owner p e (h .servers s) (decoded ok i q)) (h .lanes)))
+        (λ _. unless-both Kept (check (ltb (p .opened) most-reads) 14 (check (room g S s) 17 0)) S ask h (λ _. open-sourced s (clients + x) x))))))
+        (λ _. cond-both (leb u (p .own x)) (turn (Outcome 0) S) (unless (check (room g S s) 17 0) S other-move) Kept (λ _. h) (λ hi.
+        unless-both Kept (check (room g S s) 17 0) S other-move h (λ _. move-sourced s x (within g p x) (p .symbol) (object-object g s x ok) hi))))
 
     -- ---- deliver
     module _ (a b : ℕ) where
@@ -289,8 +288,11 @@ module _ (g : Code) (E : Entry → Type 0) (O : ℕ → ℕ → Type 0) (up : (e
       internal-owner : (p : Server) (i : ℕ) (r : Read) (v : List ℕ) → Owner g E O p → E (record { object = r .object; tag = r .tags (r .object); value = v }) → Owner g E O (internal-answer g p i r v)
       unfolding reading entered
       internal-owner p i r v o new = record {
-          own = o .own; history = all-push E (p .history) (record { object = r .object; tag = r .tags (r .object); value = v }) (o .history) new; waiting = o .waiting
-        ; reads = upd-tags (p .reads) i no-read (o .reads) none }
+        own = o .own;
+        history = all-push E (p .history) (record { object = r .object; tag = r .tags (r .object); value = v }) (o .history) new;
+        waiting = o .waiting;
+        reads = upd-tags (p .reads) i no-read (o .reads) none;
+      }
 
       settle-sourced : (i : ℕ) (r : Read) (v : List ℕ) → ((y : ℕ) → O y (r .tags y)) → (ltb i clients ≡ false → E (record { object = r .object; tag = r .tags (r .object); value = v })) → Kept (settle g S a b i r v)
       unfolding settle
@@ -299,8 +301,8 @@ module _ (g : Code) (E : Entry → Type 0) (O : ℕ → ℕ → Type 0) (up : (e
           let one = turn (Outcome 4) (take-done g S a b (client-answer g p i r v)) in
           let two = turn (Outcome 4) (take-done g S a b (internal-answer g p i r v)) in
           cond-both (ltb i clients) one (unless (check (history-room g S b) 15 0) S two) Kept
-            (λ _. take-sourced (client-answer g p i r v) (reading-owner p i (answered r v (r .tags (r .object)) 3) (h .servers b) tags))
-            (λ q. unless-both Kept (check (history-room g S b) 15 0) S two h (λ _. take-sourced (internal-answer g p i r v) (internal-owner p i r v (h .servers b) (decoded q))))
+          (λ _. take-sourced (client-answer g p i r v) (reading-owner p i (answered r v (r .tags (r .object)) 3) (h .servers b) tags))
+          (λ q. unless-both Kept (check (history-room g S b) 15 0) S two h (λ _. take-sourced (internal-answer g p i r v) (internal-owner p i r v (h .servers b) (decoded q))))
 
       -- the value that answers an internal read
       abbrev pub Found-right : Message → Found → Type 0
@@ -322,20 +324,23 @@ module _ (g : Code) (E : Entry → Type 0) (O : ℕ → ℕ → Type 0) (up : (e
           let p = S .servers b in
           let w : Waiting = record { object = x; tag = tag t a; value = v; clock = ck } in
           unless-both Kept (check (ltb (length (p .waiting)) queue) 18 0) S (turn (Outcome 0) (take-done g S a b (queued p (p .waiting ++ w ∷ [])))) h (λ _.
-            take-sourced (queued p (p .waiting ++ w ∷ [])) (queued-owner p (p .waiting ++ w ∷ []) (h .servers b) (all-push (λ v. E (waited g v)) (p .waiting) w (h .servers b .waiting) sent)))
+          take-sourced (queued p (p .waiting ++ w ∷ [])) (queued-owner p (p .waiting ++ w ∷ []) (h .servers b) (all-push (λ v. E (waited g v)) (p .waiting) w (h .servers b .waiting) sent)))
       got-sourced (Tagged x t) f sent right = take-sourced (hearing (S .servers b) x a t) (hearing-owner (S .servers b) x a t (h .servers b))
       got-sourced (Question m x T) f sent right =
           let p = S .servers b in
           unless-both Kept (check (ltb (length (S .lanes b a)) (g .places)) 17 0) S (turn (Outcome (cond (holds (p .history) x (getD T x 0)) 1 2)) (question-done g S a b (reply g b p m x T))) h (λ _. question-sourced)
         where
           question-sourced : Sourced g E O (record { servers = S .servers; lanes = posted (taken (S .lanes) a b) b a (reply g b (S .servers b) m x T) })
-          question-sourced = record { servers = h .servers; lanes = posted-all (taken (S .lanes) a b) b a (reply g b (S .servers b) m x T) (taken-all (S .lanes) a b (h .lanes))
-              (cond-both (holds (S .servers b .history) x (getD T x 0)) (Plain m (kept g (S .servers b .history) x (getD T x 0))) (Coded m (mixed g b (S .servers b) T (g .k)) (listed (g .k) (λ y. states g b (S .servers b) y (getD T y 0)))) (Sent g E O b) (λ _. tt) (λ _. tt)) }
+          question-sourced = record {
+            servers = h .servers;
+            lanes = posted-all (taken (S .lanes) a b) b a (reply g b (S .servers b) m x T) (taken-all (S .lanes) a b (h .lanes))
+                (cond-both (holds (S .servers b .history) x (getD T x 0)) (Plain m (kept g (S .servers b .history) x (getD T x 0))) (Coded m (mixed g b (S .servers b) T (g .k)) (listed (g .k) (λ y. states g b (S .servers b) y (getD T y 0)))) (Sent g E O b) (λ _. tt) (λ _. tt));
+          }
       got-sourced (Plain m v) f sent right =
           let p = S .servers b in
           let i = open-slot g p m in
           cond-both (ltb i slots) (settle g S a b i (p .reads i) v) (turn (Outcome 5) (take-done g S a b p)) Kept
-            (λ e. settle-sourced i (p .reads i) v (h .servers b .reads i) (right e)) (λ _. take-sourced p (h .servers b))
+          (λ e. settle-sourced i (p .reads i) v (h .servers b .reads i) (right e)) (λ _. take-sourced p (h .servers b))
       got-sourced (Coded m v st) f sent right =
           let p = S .servers b in
           let i = open-slot g p m in
@@ -344,12 +349,12 @@ module _ (g : Code) (E : Entry → Type 0) (O : ℕ → ℕ → Type 0) (up : (e
           let useless = turn (Outcome 6) (take-done g S a b p) in
           let wait = turn (Outcome 3) (take-done g S a b (reading p (upd (p .reads) i r′))) in
           cond-both (ltb i slots) (cond (mendable g p a r st) (cond (f .recovered) (settle g S a b i r′ (f .value)) wait) useless) (turn (Outcome 5) (take-done g S a b p)) Kept
-            (λ e. cond-both (mendable g p a r st) (cond (f .recovered) (settle g S a b i r′ (f .value)) wait) useless Kept
-              (λ _. cond-both (f .recovered) (settle g S a b i r′ (f .value)) wait Kept
-                (λ q. settle-sourced i r′ (f .value) (h .servers b .reads i) (λ c. right e c q))
-                (λ _. take-sourced (reading p (upd (p .reads) i r′)) (reading-owner p i r′ (h .servers b) (h .servers b .reads i))))
-              (λ _. take-sourced p (h .servers b)))
-            (λ _. take-sourced p (h .servers b))
+          (λ e. cond-both (mendable g p a r st) (cond (f .recovered) (settle g S a b i r′ (f .value)) wait) useless Kept
+          (λ _. cond-both (f .recovered) (settle g S a b i r′ (f .value)) wait Kept
+          (λ q. settle-sourced i r′ (f .value) (h .servers b .reads i) (λ c. right e c q))
+          (λ _. take-sourced (reading p (upd (p .reads) i r′)) (reading-owner p i r′ (h .servers b) (h .servers b .reads i))))
+          (λ _. take-sourced p (h .servers b)))
+          (λ _. take-sourced p (h .servers b))
 
       oldest-sourced : (l : List Message) (f : Found) → All (Sent g E O a) l → ((m : Message) (ms : List Message) → l ≡ m ∷ ms → Found-right m f) → Kept (oldest g S a b l f)
       unfolding oldest

@@ -1,15 +1,14 @@
 -- Entries of one object leave the history of a server.
-use mathlib.Core.Path.{_≡_, refl, sym, ap, _∙_, subst}
-use mathlib.Core.List.{List, [], _∷_, _++_}
-use mathlib.Core.Bool.{Bool, true, false, cond}
+use mathlib.Core.Path.{_≡_, refl, sym, _∙_}
+use mathlib.Core.List.{List, _∷_, _++_}
+use mathlib.Core.Bool.{Bool, true, false}
 use mathlib.Core.Logic.{_⊎_, inl, inr, ⊎-elim}
-use Prim.Native.Nat.{ℕ, zero, suc, _+_, _<_, _≤_}
+use Prim.Native.Nat.{ℕ, _+_, _<_, _≤_}
 use native.Mathlib.Omega.{arith}
-use lib.Dec.{eqb}
 use lib.ListN.{getD}
-use Rattle.std.proofs.shelf.Tests.{both-ways, cases-bool, cases-eq, cases-order, eq-eqb, ne-eqb}
+use Rattle.std.proofs.shelf.Tests.{both-ways, cases-bool, cases-eq}
 use Rattle.rules.proofs.RankedMessages.{Message, Written, Tagged, Question, Plain, Coded}
-use Rattle.rules.proofs.Core.{Core, heard, after, Chain, On, Kept, Asked, Mends, Replied, Good, Sound}
+use Rattle.rules.proofs.Core.{Core, after, On, Kept, Asked, Mends, Replied, Good, Sound}
 use Rattle.rules.proofs.Walks.{chain-le, front-le, on-front}
 
 module _ (n k : ℕ) (has : ℕ → ℕ → Bool) where
@@ -50,8 +49,9 @@ module _ (n k : ℕ) (has : ℕ → ℕ → Bool) where
     bare-now s x sn e =
         let f : d .held s x (c .own s x) ≡ false = rw (g .own s x) at e in
         elim (cases-bool (c .held s x (c .own s x))) [
-          inl q ↦ inr (⊎-elim (λ w. absurd (both-ways (d .held s x (c .own s x)) f w)) (λ w. own-idle s x sn w) (g .gone s x (c .own s x) q))
-        | inr q ↦ inl q ]
+          | inl q ↦ inr (⊎-elim (λ w. absurd (both-ways (d .held s x (c .own s x)) f w)) (λ w. own-idle s x sn w) (g .gone s x (c .own s x) q))
+          | inr q ↦ inl q
+        ]
 
     sweep-bare : (s j x : ℕ) → s < n → j < n → d .held s x (d .own s x) ≡ false → c .own s x ≤ c .told s x j
     sweep-bare s j x sn jn e = ⊎-elim (λ q. h .bare s j x sn jn q) (λ (q : (i : ℕ) → i < n → c .told s x i ≡ c .own s x). let w = q j jn in omega arith) (bare-now s x sn e)
@@ -69,9 +69,9 @@ module _ (n k : ℕ) (has : ℕ → ℕ → Bool) where
     lost-was s j x sn jn e f lt = ⊎-elim
         (λ q. h .lost s j x sn jn q f lt)
         (λ (q : (i : ℕ) → i < n → c .told s x i ≡ c .own s x).
-            let ne : j ≡ s → ⊥ = λ w. let z : c .own s x < c .own s x = rw w at lt in omega arith in
-            let on : On x (c .told s x j) (c .lane j s) (c .own s x) = rw (← q j jn) (on-front x (c .told s x j) (c .lane j s)) in
-            h .passed j s x (c .own s x) s jn sn ne f on lt sn (known j s x jn sn (λ w. ne (sym w))))
+        let ne : j ≡ s → ⊥ = λ w. let z : c .own s x < c .own s x = rw w at lt in omega arith in
+        let on : On x (c .told s x j) (c .lane j s) (c .own s x) = rw (← q j jn) (on-front x (c .told s x j) (c .lane j s)) in
+        h .passed j s x (c .own s x) s jn sn ne f on lt sn (known j s x jn sn (λ w. ne (sym w))))
         (bare-now s x sn e)
 
     sweep-lost : (s j x : ℕ) → s < n → j < n → d .held s x (d .own s x) ≡ false → has j x ≡ true → c .own s x < c .own j x → d .held j x (c .own s x) ≡ true
@@ -83,8 +83,11 @@ module _ (n k : ℕ) (has : ℕ → ℕ → Bool) where
       front y = front-le y (c .told b y a) pre (m ∷ post) (c .own a y) (rw e at (h .chain a b y an bn ne))
 
       kept-by : (y u : ℕ) → u ≡ after y (c .told b y a) pre → (u ≤ c .own b y) × (u < c .own b y → c .held b y u ≡ true) → Kept n k has d a b y u
-      kept-by y u q w = inr (rw (g .own b y) (w .0), λ lt. let lt′ : u < c .own b y = rw (g .own b y) at lt in
-          let fr = front y in stays b y u (w .1 lt′) (not-idle-passed b y u a an (omega arith) lt′))
+      kept-by y u q w = inr (
+        rw (g .own b y) (w .0),
+        λ lt. let lt′ : u < c .own b y = rw (g .own b y) at lt in
+            let fr = front y in stays b y u (w .1 lt′) (not-idle-passed b y u a an (omega arith) lt′),
+      )
 
       kept-idle : (y u p : ℕ) → c .live a p ≡ true → c .want a p y ≡ u → has b y ≡ true → d .held a y u ≡ false → Idle c a y u → Kept n k has d a b y u
       kept-idle y u p lv wa f no-more (below lt fr) = absurd (fr p lv wa)
@@ -96,17 +99,19 @@ module _ (n k : ℕ) (has : ℕ → ℕ → Bool) where
 
       kept-still : (y u p : ℕ) → c .live a p ≡ true → c .want a p y ≡ u → has b y ≡ true → u ≡ after y (c .told b y a) pre → Kept n k has c a b y u → Kept n k has d a b y u
       kept-still y u p lv wa f q (inl w) = elim (cases-bool (d .held a y u)) [
-          inl z ↦ inl z
-        | inr z ↦ ⊎-elim (λ r. inl r) (λ r. kept-idle y u p lv wa f z r) (g .gone a y u w) ]
+        | inl z ↦ inl z
+        | inr z ↦ ⊎-elim (λ r. inl r) (λ r. kept-idle y u p lv wa f z r) (g .gone a y u w)
+      ]
       kept-still y u p lv wa f q (inr w) = kept-by y u q w
 
       asked-still : (p : ℕ) (T : List ℕ) → Asked n k has c a b pre p T → Asked n k has d a b pre p T
       asked-still p T q = record {
-          counted = rw (g .last a) (q .counted)
-        ; chain = λ y lt. rw (g .told b y a) (q .chain y lt)
-        ; read = λ i lv nu y lt. g .want a i y ∙ q .read i (sym (g .live a i) ∙ lv) (sym (g .num a i) ∙ nu) y lt
-        ; kept = λ i lv nu y lt f. let lv′ = sym (g .live a i) ∙ lv in let nu′ = sym (g .num a i) ∙ nu in
-            rw (g .want a i y) (kept-still y (c .want a i y) i lv′ refl f (q .read i lv′ nu′ y lt ∙ q .chain y lt) (q .kept i lv′ nu′ y lt f)) }
+        counted = rw (g .last a) (q .counted);
+        chain = λ y lt. rw (g .told b y a) (q .chain y lt);
+        read = λ i lv nu y lt. g .want a i y ∙ q .read i (sym (g .live a i) ∙ lv) (sym (g .num a i) ∙ nu) y lt;
+        kept = λ i lv nu y lt f. let lv′ = sym (g .live a i) ∙ lv in let nu′ = sym (g .num a i) ∙ nu in
+            rw (g .want a i y) (kept-still y (c .want a i y) i lv′ refl f (q .read i lv′ nu′ y lt ∙ q .chain y lt) (q .kept i lv′ nu′ y lt f));
+      }
 
       wanted-stays : (y u p w : ℕ) → c .live b p ≡ true → c .want b p y ≡ u → Mends n k has c a b pre y u w → Idle c b y u → ⊥
       wanted-stays y u p w lv wa q (below lt fr) = fr p lv wa
@@ -122,15 +127,18 @@ module _ (n k : ℕ) (has : ℕ → ℕ → Bool) where
 
       mends-still : (y u p w : ℕ) → c .live b p ≡ true → c .want b p y ≡ u → Mends n k has c a b pre y u w → Mends n k has d a b pre y u w
       mends-still y u p w lv wa q = record {
-          wanted = stays b y u (q .wanted) (wanted-stays y u p w lv wa q)
-        ; stated = stated-still y u p w lv wa (q .stated) (q .low)
-        ; off = rw (g .told b y a) (q .off); low = rw (g .told b y a) (q .low) }
+        wanted = stays b y u (q .wanted) (wanted-stays y u p w lv wa q);
+        stated = stated-still y u p w lv wa (q .stated) (q .low);
+        off = rw (g .told b y a) (q .off);
+        low = rw (g .told b y a) (q .low);
+      }
 
       replied-still : (p : ℕ) (st : List ℕ) → Replied n k has c a b pre p st → Replied n k has d a b pre p st
       replied-still p st q = record {
-          counted = rw (g .last b) (q .counted)
-        ; usable = λ i lv nu y lt f. let lv′ = sym (g .live b i) ∙ lv in
-            rw (g .want b i y) (⊎-elim (λ w. inl w) (λ w. inr (mends-still y (c .want b i y) i (getD st y 0) lv′ refl w)) (q .usable i lv′ (sym (g .num b i) ∙ nu) y lt f)) }
+        counted = rw (g .last b) (q .counted);
+        usable = λ i lv nu y lt f. let lv′ = sym (g .live b i) ∙ lv in
+            rw (g .want b i y) (⊎-elim (λ w. inl w) (λ w. inr (mends-still y (c .want b i y) i (getD st y 0) lv′ refl w)) (q .usable i lv′ (sym (g .num b i) ∙ nu) y lt f));
+      }
 
     good-still : (a b : ℕ) → a < n → b < n → (a ≡ b → ⊥) → (pre : List Message) (m : Message) (post : List Message) → c .lane a b ≡ pre ++ m ∷ post → Good n k has c a b pre m → Good n k has d a b pre m
     good-still a b an bn ne pre (Written y v t l) post e q = tt
@@ -141,12 +149,13 @@ module _ (n k : ℕ) (has : ℕ → ℕ → Bool) where
 
     pub sweep-keeps : Sound n k has d
     sweep-keeps = record {
-        zero-held = g .zero-held
-      ; self = λ s x. g .told s x s ∙ h .self s x ∙ sym (g .own s x)
-      ; chain = λ j s x jn sn ne. rw (g .told s x j, g .lane j s, g .own j x) (h .chain j s x jn sn ne)
-      ; behind = λ s j x sn jn e f. rw (g .own s x, g .told s x j) (h .behind s j x sn jn e f)
-      ; bare = λ s j x sn jn e. rw (g .own s x, g .told s x j) (sweep-bare s j x sn jn e)
-      ; passed = λ j s x t i jn sn ne f on lt inn le. sweep-passed j s x t i jn sn ne f (rw (g .told s x j, g .lane j s) at on) (rw (g .own j x) at lt) inn (rw (g .told j x i) at le)
-      ; lost = λ s j x sn jn e f lt. rw (g .own s x) (sweep-lost s j x sn jn e f (rw (g .own s x, g .own j x) at lt))
-      ; reads = λ s p e. let r = h .reads s p (sym (g .live s p) ∙ e) in (rw (g .last s, g .num s p) (r .0), λ y. rw (g .want s p y, g .own s y) (r .1 y))
-      ; lanes = λ a b an bn ne pre m post e. let q = sym (g .lane a b) ∙ e in good-still a b an bn ne pre m post q (h .lanes a b an bn ne pre m post q) }
+      zero-held = g .zero-held;
+      self = λ s x. g .told s x s ∙ h .self s x ∙ sym (g .own s x);
+      chain = λ j s x jn sn ne. rw (g .told s x j, g .lane j s, g .own j x) (h .chain j s x jn sn ne);
+      behind = λ s j x sn jn e f. rw (g .own s x, g .told s x j) (h .behind s j x sn jn e f);
+      bare = λ s j x sn jn e. rw (g .own s x, g .told s x j) (sweep-bare s j x sn jn e);
+      passed = λ j s x t i jn sn ne f on lt inn le. sweep-passed j s x t i jn sn ne f (rw (g .told s x j, g .lane j s) at on) (rw (g .own j x) at lt) inn (rw (g .told j x i) at le);
+      lost = λ s j x sn jn e f lt. rw (g .own s x) (sweep-lost s j x sn jn e f (rw (g .own s x, g .own j x) at lt));
+      reads = λ s p e. let r = h .reads s p (sym (g .live s p) ∙ e) in (rw (g .last s, g .num s p) (r .0), λ y. rw (g .want s p y, g .own s y) (r .1 y));
+      lanes = λ a b an bn ne pre m post e. let q = sym (g .lane a b) ∙ e in good-still a b an bn ne pre m post q (h .lanes a b an bn ne pre m post q);
+    }

@@ -1,34 +1,29 @@
 -- What a run's events tell, on the view of a ranked state: the writes accepted and applied, by the ranked log and tags.
 use mathlib.Core.Path.{_≡_, refl, sym, ap, ap₂, _∙_, subst}
 use mathlib.Core.List.{List, [], _∷_, _++_, map, append-nil, append-assoc}
-use mathlib.Core.Bool.{Bool, true, false, cond, _&&_, _||_, not}
-use Prim.Native.Nat.{ℕ, zero, suc, _+_, _<_, _≤_, max}
-use native.Mathlib.Omega.{arith}
-use lib.Dec.{eqb, ltb, leb}
-use Rattle.std.specs.declared.option.Option.{Option}
+use mathlib.Core.Bool.{Bool, cond}
+use Prim.Native.Nat.{ℕ, _+_, _≤_, max}
+use lib.Dec.{eqb, ltb}
 use Rattle.std.specs.declared.option.Option.the-variants.{None, Some}
 use Rattle.std.proofs.shelf.Lists.{map-append}
 use Rattle.message.specs.declared.tag.Tag as declared
-use Rattle.message.specs.Meanings.{Meaning, write-notice, tag-notice, question, plain-reply, coded-reply}
 use Rattle.rules.specs.Histories as history
-use Rattle.rules.specs.Histories.{has-entry, later}
+use Rattle.rules.specs.Histories.{later}
 use Rattle.rules.specs.State as model
-use Rattle.rules.specs.State.{Layout}
 use Rattle.rules.specs.Turns as turns
 use Rattle.rules.specs.Turns.{Call, Write, Read as Ask, Collect, Deliver, Apply, Encode, Sweep, Found}
 use Rattle.rules.specs.Runs as runs
-use Rattle.rules.specs.Runs.{Move}
 use Rattle.rules.specs.Events as told
 use Rattle.rules.specs.Events.{Event}
 use Rattle.rules.specs.Delivering as delivering
 use Rattle.rules.proofs.RankedMessages.{Message, Written, Tagged, Question, Plain, Coded}
 use Rattle.rules.proofs.Unranked.{tag-at, message-at}
-use Rattle.rules.proofs.Ranked.{Code, coding-of, layout-of, Entry, Read, Server, State, enters, holds, kept, slots, is-open}
+use Rattle.rules.proofs.Ranked.{Code, layout-of, Entry, State, enters, kept, slots}
 use Rattle.rules.proofs.RankedSteps as Steps
-use Rattle.rules.proofs.RankedSteps.{Answer, Refused, Tag, Value, Number, Still, Nothing, Outcome, Count, Turn, open-slot, mendable, mended, in-hand}
-use Rattle.rules.proofs.RankedLaw as law
-use Rattle.rules.proofs.RankedLaw.{accepted-by, applies, best, Lawful, only}
-use Rattle.rules.proofs.View.{entry-at, waiting-at, asking-at, read-at, server-at, lanes-at, state-at, answer-at, turn-at, cond-at, has-entry-at, holds-at, value-at, later-at, same-at}
+use Rattle.rules.proofs.RankedSteps.{Answer, Refused, Tag, Value, Number, Still, Nothing, Outcome, Count, open-slot, mendable, mended}
+use Rattle.rules.proofs.RankedFacts as law
+use Rattle.rules.proofs.RankedFacts.{accepted-by, applies, best}
+use Rattle.rules.proofs.View.{entry-at, asking-at, read-at, server-at, state-at, answer-at, turn-at, cond-at, has-entry-at, value-at, later-at}
 use Rattle.rules.proofs.Same.{write-same, apply-same, read-same}
 use Rattle.rules.proofs.SameLater.{collect-same, encode-same, sweep-same, deliver-same, mended-same, open-place-same, seen-open}
 use Rattle.rules.proofs.Deliver.{open-found}
@@ -149,5 +144,6 @@ given-same g es L A h x t = ap (λ l. history.value-under (g .w) l x (tag-at t))
 pub tells-push : (es : List Event) (L : List Entry) (A : ℕ → List ℕ) → Tells es L A → (e : Event) (c : Call) (a : Answer) → e .call ≡ c → e .answer ≡ answer-at a
     → Tells (es ++ e ∷ []) (L ++ accepted-by c a) (λ k. A k ++ applies k c a)
 tells-push es L A h e c a ec ea = record {
-    writes = accepted-push es e ∙ ap₂ (λ (l : List history.Entry) (m : List history.Entry). l ++ m) (h .writes) (ap₂ (λ (d : Call) (b : turns.Answer). told.accepted-by d (told.tag-told b)) ec ea ∙ accepted-same c a) ∙ sym (map-append entry-at L (accepted-by c a))
-  ; applied = λ k. applied-push k es e ∙ ap₂ (λ (l : List declared.Tag) (m : List declared.Tag). l ++ m) (h .applied k) (ap₂ (λ (d : Call) (b : turns.Answer). told.applied-by k d (told.tag-told b)) ec ea ∙ applied-same k c a) ∙ sym (map-append tag-at (A k) (applies k c a)) }
+  writes = accepted-push es e ∙ ap₂ (λ (l : List history.Entry) (m : List history.Entry). l ++ m) (h .writes) (ap₂ (λ (d : Call) (b : turns.Answer). told.accepted-by d (told.tag-told b)) ec ea ∙ accepted-same c a) ∙ sym (map-append entry-at L (accepted-by c a));
+  applied = λ k. applied-push k es e ∙ ap₂ (λ (l : List declared.Tag) (m : List declared.Tag). l ++ m) (h .applied k) (ap₂ (λ (d : Call) (b : turns.Answer). told.applied-by k d (told.tag-told b)) ec ea ∙ applied-same k c a) ∙ sym (map-append tag-at (A k) (applies k c a));
+}

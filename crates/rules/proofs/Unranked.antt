@@ -1,6 +1,6 @@
 -- The tag of a rank, and messages whose tags are ranks as messages with tags.
 use mathlib.Core.List.{map}
-use Prim.Native.Nat.{ℕ, _/_, _%_}
+use Prim.Native.Nat.{ℕ}
 use Rattle.message.specs.declared.tag.Tag as declared
 use Rattle.message.specs.Meanings.{Meaning, write-notice, tag-notice, question, plain-reply, coded-reply}
 use Rattle.rules.proofs.RankedMessages.{Message, Written, Tagged, Question, Plain, Coded, height, server}

@@ -1,43 +1,23 @@
 -- Values: what is entered, sent, in hand and coded is what was written under the tags.
-use mathlib.Core.Path.{_≡_, refl, sym, ap, _∙_, subst}
+use mathlib.Core.Path.{_≡_, refl, sym, ap, _∙_, ap₂}
 use mathlib.Core.List.{List, [], _∷_, _++_}
-use mathlib.Core.Bool.{Bool, true, false, cond, _&&_, _||_, not}
+use mathlib.Core.Bool.{Bool, true, false, _&&_}
 use mathlib.Core.Logic.{_⊎_, inl, inr, ⊎-elim}
-use Prim.Native.Nat.{ℕ, zero, suc, _+_, _-_, _<_, _≤_, min, max}
+use Prim.Native.Nat.{ℕ, _+_, _-_, _<_, _≤_}
 use native.Mathlib.Omega.{arith}
-use lib.Dec.{eqb, ltb, leb}
-use lib.ListN.{getD, length, drop}
-use Rattle.std.specs.shelf.Lists.{kept-by}
-use Rattle.std.proofs.shelf.Ways.{tells}
-use Rattle.std.proofs.shelf.Tests.{both-ways, cases-bool, cases-eq, cases-order, cases-lt, eq-eqb, ne-eqb, eqb-true, eqb-false, ltb-true, ltb-false, leb-true, leb-false, lt-ltb, and-parts, and-from, and-cases, or-cases, or-parts, or-left, or-right, not-true, not-false, cond-both, cond-true, cond-false}
-use Rattle.rules.proofs.RankedMessages.{Message, Written, Tagged, Question, Plain, Coded, tag}
-use Rattle.rules.proofs.RankedWords.{upd, listed, every, some, seek, lowest, Lanes, posted, spread, taken, free}
-use Rattle.rules.proofs.Core.{Core, heard, Good, Sound, Asked}
-use Rattle.rules.proofs.Ranked.{Code, Entry, Waiting, Read, Server, State, has, holds, enters, same-entry, entered-value, kept, highest, top-tag, zeros, swap, is-open, core, slots, clients, depth, queue, most-writes, most-reads, most-height, no-read, fresh}
-use Rattle.std.specs.declared.option.Option.{Option}
-use Rattle.std.specs.declared.option.Option.the-variants.{None, Some}
-use Rattle.std.proofs.shelf.Counted.{getD-map-counting}
-use Rattle.rules.proofs.RankedSteps as Steps
-use Rattle.rules.proofs.RankedSteps.{Call, Write, Ask, Collect, Deliver, Apply, Encode, Sweep, Answer, Refused, Tag, Value, Number, Still, Nothing, Outcome, Count, Found, Turn, turn, check, unless, write-refusal, open-refusal, read-refusal, read-found, collect-refusal, collect-at, object-refusal, lane-refusal, put, entered, counted, queued, sifted, reading, tells as hearing, moved, new-read, opening, answered, in-hand, overtaken, Picked, room, history-room, elements, write-tag, write-done, write, open-done, free-slot, open-read, from-history, from-symbol, read, client-slot, collect-done, collect, wait-tag, picked, apply-done, apply-picked, apply, move-done, enter-done, encode-contained, within, encode-other, encode, floor, wanted, stays, settled, swept, sweep-done, sweep, fits, states, mixed, reply, question-done, open-slot, take-done, internal-answer, client-answer, settle, mendable, mended, got, oldest, deliver, step, after, run}
-use Rattle.rules.proofs.Words.{upd-same, upd-other, upd-keeps, upd-each, every-at, every-from, some-from, seek-found, lowest-le, enters-push, holds-push, enters-sift, highest-found}
-use Rattle.rules.proofs.Carry.{Carry, good-carry}
-use Rattle.rules.proofs.Take.{Take, take-keeps}
-use Rattle.rules.proofs.Move
-use Rattle.rules.proofs.Move.{move-keeps}
-use Rattle.rules.proofs.Sweep
-use Rattle.rules.proofs.Sweep.{Idle, below, level, sweep-keeps}
-use Rattle.rules.proofs.Replies.{stated, opens, replies, counts, usable, starts}
-use Rattle.rules.proofs.Frames.{Slot, same, fresh-read, Mild, mild-self, spread-from, spread-else, taken-here, taken-else, with-lanes, Fine, fine-put, fine-spread, fine-post, fine-take}
-use mathlib.Core.Path.{ap₂}
+use lib.Dec.{eqb, ltb}
+use lib.ListN.{getD, length}
 use Rattle.std.specs.shelf.Lists.{All}
-use Rattle.std.proofs.shelf.Elements.{all-push, all-drop, all-kept-by, all-weaker}
-use Rattle.std.proofs.shelf.Counted.{length-map-counting}
-use Rattle.rules.proofs.Core.{Replied}
-use Rattle.rules.proofs.RankedLaw.{mix, Lawful, Decoded, Tested, only, Allowed, Allowed-message}
-use Rattle.rules.proofs.Calls.{unless-both, checked, object-server, object-object, read-server}
-use Rattle.rules.proofs.Deliver.{lane-ends, states-stated, open-found}
-use Rattle.rules.proofs.Source.{Owner, Sent, Sourced}
-use Rattle.rules.proofs.Algebra.{Cells, Mix, mix-tags, swap-mix, mix-same}
+use Rattle.std.proofs.shelf.Tests.{both-ways, cases-bool, cases-eq, eqb-true, and-parts, or-cases, cond-true, cond-false}
+use Rattle.rules.proofs.RankedMessages.{Message, Written, Tagged, Question, Plain, Coded, tag}
+use Rattle.rules.proofs.RankedWords.{upd, Lanes}
+use Rattle.rules.proofs.Core.{Good, Asked, Replied}
+use Rattle.rules.proofs.Ranked.{Code, Entry, Server, State, has, holds, enters, same-entry, entered-value, kept, zeros, is-open, core, slots}
+use Rattle.rules.proofs.RankedSteps.{counted}
+use Rattle.rules.proofs.Words.{upd-same, upd-other, upd-each}
+use Rattle.rules.proofs.Frames.{Fine}
+use Rattle.rules.proofs.RankedFacts.{Lawful}
+use Rattle.rules.proofs.Algebra.{Cells, Mix}
 
 -- a claim on each message of a lane, by its places
 pub all-placed : (P : Message → Type 0) (l : List Message) → ((pre : List Message) (m : Message) (post : List Message) → l ≡ pre ++ m ∷ post → P m) → All P l
@@ -94,10 +74,11 @@ module _ (g : Code) (R : Lawful g) (L : List Entry) where
   unfolding entered-value enters
   entered-right [] x t all e = absurd (both-ways false refl e)
   entered-right (d ∷ es) x t all e = elim (cases-bool (same-entry x t d)) [
-      inl q ↦ let p = and-parts (eqb (d .object) x) (eqb (d .tag) t) q in
-          cond-true (same-entry x t d) (d .value) (entered-value g es x t) q ∙ all .0 .1 ∙ ap₂ (kept g L) (eqb-true (d .object) x (p .0)) (eqb-true (d .tag) t (p .1))
+    | inl q ↦ let p = and-parts (eqb (d .object) x) (eqb (d .tag) t) q in
+        cond-true (same-entry x t d) (d .value) (entered-value g es x t) q ∙ all .0 .1 ∙ ap₂ (kept g L) (eqb-true (d .object) x (p .0)) (eqb-true (d .tag) t (p .1))
     | inr q ↦ cond-false (same-entry x t d) (d .value) (entered-value g es x t) q ∙ entered-right es x t (all .1)
-          (⊎-elim (λ w. absurd (both-ways (same-entry x t d) q w)) (λ w. w) (or-cases (same-entry x t d) (enters es x t) e)) ]
+        (⊎-elim (λ w. absurd (both-ways (same-entry x t d) q w)) (λ w. w) (or-cases (same-entry x t d) (enters es x t) e))
+  ]
 
   zero-kept : (es : List Entry) (x t : ℕ) → eqb t 0 ≡ true → kept g es x t ≡ zeros g
   unfolding kept
@@ -109,8 +90,9 @@ module _ (g : Code) (R : Lawful g) (L : List Entry) where
 
   pub kept-right : (es : List Entry) (x t : ℕ) → Cells g R L → All Of-entry es → holds es x t ≡ true → kept g es x t ≡ kept g L x t
   kept-right es x t cells all e = elim (cases-bool (eqb t 0)) [
-      inl q ↦ zero-kept es x t q ∙ sym (zero-kept L x t q)
-    | inr q ↦ past-zero es x t q ∙ entered-right es x t all (⊎-elim (λ w. absurd (both-ways (eqb t 0) q w)) (λ w. w) (or-cases (eqb t 0) (enters es x t) e)) ]
+    | inl q ↦ zero-kept es x t q ∙ sym (zero-kept L x t q)
+    | inr q ↦ past-zero es x t q ∙ entered-right es x t all (⊎-elim (λ w. absurd (both-ways (eqb t 0) q w)) (λ w. w) (or-cases (eqb t 0) (enters es x t) e))
+  ]
 
   -- the numbers in a lane are given
   abbrev Bound : Server → Server → Message → Type 0
@@ -133,9 +115,12 @@ module _ (g : Code) (R : Lawful g) (L : List Entry) where
   told-still : (a : ℕ) (p p′ r r′ : Server) → Still-reads p p′ → Still-reads r r′ → (m : Message) → Bound p r m → Told a p r m → Told a p′ r′ m
   told-still a p p′ r r′ hp hr (Written x v t ck) b h = tt
   told-still a p p′ r r′ hp hr (Tagged x t) b h = tt
-  told-still a p p′ r r′ hp hr (Question m x T) b h = (h .0, λ i e f. ⊎-elim
-      (λ (q : Same-read p p′ i). let w = h .1 i (q .was) (sym (q .number) ∙ f) in (q .object ∙ w .0, λ y yk. ap (λ (z : ℕ → ℕ). z y) (q .tags) ∙ w .1 y yk))
-      (λ (q : p .opened < p′ .reads i .number). absurd (omega arith)) (hp i e))
+  told-still a p p′ r r′ hp hr (Question m x T) b h = (
+    h .0,
+    λ i e f. ⊎-elim
+        (λ (q : Same-read p p′ i). let w = h .1 i (q .was) (sym (q .number) ∙ f) in (q .object ∙ w .0, λ y yk. ap (λ (z : ℕ → ℕ). z y) (q .tags) ∙ w .1 y yk))
+        (λ (q : p .opened < p′ .reads i .number). absurd (omega arith)) (hp i e),
+  )
   told-still a p p′ r r′ hp hr (Plain m v) b h = λ i e f. ⊎-elim
       (λ (q : Same-read r r′ i). h i (q .was) (sym (q .number) ∙ f) ∙ sym (ap₂ (λ (x : ℕ) (z : ℕ → ℕ). kept g L x (z x)) (q .object) (q .tags)))
       (λ (q : r .opened < r′ .reads i .number). absurd (omega arith)) (hr i e)
@@ -146,7 +131,7 @@ module _ (g : Code) (R : Lawful g) (L : List Entry) where
       → (a b : ℕ) → a < g .n → b < g .n → (a ≡ b → ⊥) → All (Told a (servers a) (servers b)) (S .lanes a b)
   lanes-still S servers f h still a b an bn ne =
       all-both (Bound (S .servers a) (S .servers b)) (Told a (S .servers a) (S .servers b)) (Told a (servers a) (servers b)) (S .lanes a b)
-        (told-still a (S .servers a) (servers a) (S .servers b) (servers b) (still a) (still b)) (bounds S f a b an bn ne) (h .lanes a b an bn ne)
+      (told-still a (S .servers a) (servers a) (S .servers b) (servers b) (still a) (still b)) (bounds S f a b an bn ne) (h .lanes a b an bn ne)
 
   pub put-still : (S : State) (s : ℕ) (r : Server) → Still-reads (S .servers s) r → (k : ℕ) → Still-reads (S .servers k) (upd (S .servers) s r k)
   put-still S s r h k = upd-each Still-reads (S .servers) s r still-self h k
@@ -156,5 +141,6 @@ module _ (g : Code) (R : Lawful g) (L : List Entry) where
       → ((a b : ℕ) → a < g .n → b < g .n → (a ≡ b → ⊥) → All (Told a (upd (S .servers) s r a) (upd (S .servers) s r b)) (S .lanes a b) → All (Told a (upd (S .servers) s r a) (upd (S .servers) s r b)) (Ln a b))
       → Valued (record { servers = upd (S .servers) s r; lanes = Ln })
   put-valued S s r Ln f h right still change = record {
-      servers = λ k kn. elim (cases-eq k s) [ inl e ↦ rw (e, upd-same (S .servers) s r) (right (rw e at kn)) | inr ne ↦ rw (upd-other (S .servers) s k r ne) (h .servers k kn) ]
-    ; lanes = λ a b an bn ne. change a b an bn ne (lanes-still S (upd (S .servers) s r) f h (put-still S s r still) a b an bn ne) }
+    servers = λ k kn. elim (cases-eq k s) [ inl e ↦ rw (e, upd-same (S .servers) s r) (right (rw e at kn)) | inr ne ↦ rw (upd-other (S .servers) s k r ne) (h .servers k kn) ];
+    lanes = λ a b an bn ne. change a b an bn ne (lanes-still S (upd (S .servers) s r) f h (put-still S s r still) a b an bn ne);
+  }

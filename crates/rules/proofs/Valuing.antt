@@ -1,58 +1,48 @@
 -- Every call keeps the values right.
-use mathlib.Core.Path.{_≡_, refl, sym, ap, _∙_, subst}
+use mathlib.Core.Path.{_≡_, refl, sym, ap, _∙_}
 use mathlib.Core.List.{List, [], _∷_, _++_}
 use mathlib.Core.Bool.{Bool, true, false, cond, _&&_, _||_, not}
 use mathlib.Core.Logic.{_⊎_, inl, inr, ⊎-elim}
-use Prim.Native.Nat.{ℕ, zero, suc, _+_, _-_, _<_, _≤_, min, max}
+use Prim.Native.Nat.{ℕ, _+_, _-_, _<_}
 use native.Mathlib.Omega.{arith}
 use lib.Dec.{eqb, ltb, leb}
-use lib.ListN.{getD, length, drop}
-use Rattle.std.specs.shelf.Lists.{kept-by}
-use Rattle.std.proofs.shelf.Ways.{tells}
-use Rattle.std.proofs.shelf.Tests.{both-ways, cases-bool, cases-eq, cases-order, cases-lt, eq-eqb, ne-eqb, eqb-true, eqb-false, ltb-true, ltb-false, leb-true, leb-false, lt-ltb, and-parts, and-from, and-cases, or-cases, or-parts, or-left, or-right, not-true, not-false, cond-both, cond-true, cond-false}
-use Rattle.rules.proofs.RankedMessages.{Message, Written, Tagged, Question, Plain, Coded, tag, height, server}
-use Rattle.rules.proofs.RankedWords.{upd, listed, every, some, seek, lowest, Lanes, posted, spread, taken, free}
-use Rattle.rules.proofs.Core.{Core, heard, Good, Sound, Asked}
-use Rattle.rules.proofs.Ranked.{Code, Entry, Waiting, Read, Server, State, has, holds, enters, same-entry, kept, highest, top-tag, zeros, swap, is-open, core, slots, clients, depth, queue, most-writes, most-reads, most-height, no-read, fresh}
+use lib.ListN.{getD, length}
+use Rattle.std.specs.shelf.Lists.{All}
+use Rattle.std.proofs.shelf.Tests.{both-ways, cases-eq, eqb-true, leb-false, and-parts, and-from, or-right, not-false, cond-both}
+use Rattle.rules.proofs.RankedMessages.{Message, Written, Tagged, Question, tag, height, server}
+use Rattle.rules.proofs.RankedWords.{upd, listed, spread}
+use Rattle.rules.proofs.Ranked.{Code, Entry, Waiting, Read, Server, State, has, holds, enters, kept, highest, top-tag, swap, is-open, slots, clients, most-reads, no-read}
 use Rattle.std.specs.declared.option.Option.{Option}
 use Rattle.std.specs.declared.option.Option.the-variants.{None, Some}
-use Rattle.std.proofs.shelf.Counted.{getD-map-counting}
-use Rattle.rules.proofs.RankedSteps as Steps
-use Rattle.rules.proofs.RankedSteps.{Call, Write, Ask, Collect, Deliver, Apply, Encode, Sweep, Answer, Refused, Tag, Value, Number, Still, Nothing, Outcome, Count, Found, Turn, turn, check, unless, write-refusal, open-refusal, read-refusal, read-found, collect-refusal, collect-at, object-refusal, lane-refusal, put, entered, counted, queued, sifted, reading, tells as hearing, moved, new-read, opening, answered, in-hand, overtaken, Picked, room, history-room, elements, write-tag, write-done, write, open-done, free-slot, open-read, from-history, from-symbol, read, client-slot, collect-done, collect, wait-tag, picked, apply-done, apply-picked, apply, move-done, enter-done, encode-contained, within, encode-other, encode, floor, wanted, stays, settled, swept, sweep-done, sweep, fits, states, mixed, reply, question-done, open-slot, take-done, internal-answer, client-answer, settle, mendable, mended, got, oldest, deliver, step, after, run}
-use Rattle.rules.proofs.Words.{upd-same, upd-other, upd-keeps, upd-each, every-at, every-from, some-from, seek-found, lowest-le, enters-push, holds-push, enters-sift, highest-found}
-use Rattle.rules.proofs.Carry.{Carry, good-carry}
-use Rattle.rules.proofs.Take.{Take, take-keeps}
-use Rattle.rules.proofs.Move
-use Rattle.rules.proofs.Move.{move-keeps}
-use Rattle.rules.proofs.Sweep
-use Rattle.rules.proofs.Sweep.{Idle, below, level, sweep-keeps}
-use Rattle.rules.proofs.Replies.{stated, opens, replies, counts, usable, starts}
-use Rattle.rules.proofs.Frames.{Slot, same, fresh-read, Mild, mild-self, spread-from, spread-else, taken-here, taken-else, with-lanes, Fine, fine-put, fine-spread, fine-post, fine-take}
-use mathlib.Core.Path.{ap₂}
-use Rattle.std.specs.shelf.Lists.{All}
-use Rattle.std.proofs.shelf.Elements.{all-push, all-drop, all-kept-by, all-weaker}
-use Rattle.std.proofs.shelf.Counted.{length-map-counting, fill-by-all}
-use Rattle.rules.proofs.Core.{Replied}
-use Rattle.rules.proofs.RankedLaw.{mix, Lawful, Decoded, Tested, only, Allowed, Allowed-message}
-use Rattle.rules.proofs.Calls.{unless-both, checked, object-server, object-object, read-server}
-use Rattle.rules.proofs.Deliver.{lane-ends, states-stated, open-found}
-use Rattle.rules.proofs.Source.{Owner, Sent, Sourced}
-use Rattle.rules.proofs.Algebra.{Cells, Mix, mix-symbol, mix-tags, swap-mix, mix-same}
-use Rattle.rules.proofs.Calls.{overtaken-open, read-object}
-use Rattle.rules.proofs.Values.{live, Same-read, Still-reads, still-self, Of-entry, Of-tag, Right, Told, Valued, kept-right, lanes-still, put-still, put-valued}
+use Rattle.std.proofs.shelf.Counted.{getD-map-counting, fill-by-all}
+use Rattle.rules.proofs.RankedSteps.{Tag, Value, Number, Still, Outcome, Count, Found, Turn, turn, check, unless, write-refusal, open-refusal, read-refusal, read-found, collect-refusal, collect-at, object-refusal, entered, counted, queued, sifted, reading, moved, new-read, opening, overtaken, Picked, room, history-room, elements, write-tag, write-done, write, open-done, free-slot, open-read, from-history, from-symbol, read, client-slot, collect-done, collect, wait-tag, picked, apply-done, apply-picked, apply, move-done, enter-done, encode-contained, within, encode-other, encode, swept, sweep-done, sweep}
+use Rattle.rules.proofs.Words.{upd-same, upd-other, highest-found}
+use Rattle.rules.proofs.Sweep.{below}
+use Rattle.rules.proofs.Frames.{Fine}
+use Rattle.std.proofs.shelf.Elements.{all-push}
+use Rattle.rules.proofs.RankedFacts.{mix, Lawful, Decoded}
+use Rattle.rules.proofs.Calls.{unless-both, object-server, object-object, read-server, overtaken-open, read-object}
+use Rattle.rules.proofs.Source.{Sourced}
+use Rattle.rules.proofs.Algebra.{Cells, Mix, mix-symbol, mix-tags, swap-mix}
+use Rattle.rules.proofs.Values.{live, Still-reads, Of-entry, Of-tag, Right, Told, Valued, kept-right, put-valued}
 
 pub still-same : (p r : Server) → ((i : ℕ) → live r i ≡ true → r .reads i ≡ p .reads i) → Still-reads p r
 still-same p r h i e =
     let q = h i e in
     let a = and-parts (ltb i slots) (is-open (r .reads i)) e in
-    inl (record { was = and-from (ltb i slots) (is-open (p .reads i)) (a .0) (ap is-open (sym q) ∙ a .1)
-                ; number = ap (λ (z : Read). z .number) q; object = ap (λ (z : Read). z .object) q; tags = ap (λ (z : Read). z .tags) q })
+    inl (record {
+      was = and-from (ltb i slots) (is-open (p .reads i)) (a .0) (ap is-open (sym q) ∙ a .1);
+      number = ap (λ (z : Read). z .number) q;
+      object = ap (λ (z : Read). z .object) q;
+      tags = ap (λ (z : Read). z .tags) q;
+    })
 
 -- a place that gets a read that is not open leaves the open reads
 pub closed-same : (rs : ℕ → Read) (i : ℕ) (q : Read) → is-open q ≡ false → (k : ℕ) → (ltb k slots && is-open (upd rs i q k)) ≡ true → upd rs i q k ≡ rs k
 closed-same rs i q c k e = elim (cases-eq k i) [
-    inl w ↦ absurd (both-ways (is-open q) c (ap is-open (sym (ap (upd rs i q) w ∙ upd-same rs i q)) ∙ and-parts (ltb k slots) (is-open (upd rs i q k)) e .1))
-  | inr ne ↦ upd-other rs i k q ne ]
+  | inl w ↦ absurd (both-ways (is-open q) c (ap is-open (sym (ap (upd rs i q) w ∙ upd-same rs i q)) ∙ and-parts (ltb k slots) (is-open (upd rs i q k)) e .1))
+  | inr ne ↦ upd-other rs i k q ne
+]
 
 -- a list by its cells
 cells-same : (n : ℕ) (u v : List ℕ) → length u ≡ n → length v ≡ n → ((c : ℕ) → c < n → getD u c 0 ≡ getD v c 0) → u ≡ v
@@ -61,9 +51,10 @@ cells-same n u v hu hv e = fill-by-all (λ c. getD v c 0) u n 0 hu e ∙ sym (fi
 module _ (g : Code) (R : Lawful g) (L : List Entry) (cells : Cells g R L) where
   pub right-same : (s : ℕ) (p r : Server) → Right g R L s p → r .own ≡ p .own → r .symbol ≡ p .symbol → ((i : ℕ) → live r i ≡ true → r .reads i ≡ p .reads i) → Right g R L s r
   right-same s p r h eo es er = record {
-      symbol = record { long = ap length es ∙ h .symbol .long; cells = λ c lt. ap (λ v. getD v c 0) es ∙ h .symbol .cells c lt ∙ ap (λ (T : ℕ → ℕ). mix g s (λ y. getD (kept g L y (T y)) c 0)) (sym eo) }
-    ; object = λ i e. rw (er i e) (h .object i (was i e))
-    ; hand = λ i e j jn w. rw (er i e) (h .hand i (was i e) j jn (rw (er i e) at w)) }
+    symbol = record { long = ap length es ∙ h .symbol .long; cells = λ c lt. ap (λ v. getD v c 0) es ∙ h .symbol .cells c lt ∙ ap (λ (T : ℕ → ℕ). mix g s (λ y. getD (kept g L y (T y)) c 0)) (sym eo) };
+    object = λ i e. rw (er i e) (h .object i (was i e));
+    hand = λ i e j jn w. rw (er i e) (h .hand i (was i e) j jn (rw (er i e) at w));
+  }
     where
       was : (i : ℕ) → live r i ≡ true → live p i ≡ true
       was i e = let a = and-parts (ltb i slots) (is-open (r .reads i)) e in and-from (ltb i slots) (is-open (p .reads i)) (a .0) (ap is-open (sym (er i e)) ∙ a .1)
@@ -98,7 +89,7 @@ module _ (g : Code) (R : Lawful g) (L : List Entry) (cells : Cells g R L) where
         let m = Written x v (p .top + 1) (listed (g .n) (c .clock)) in
         let er : (i : ℕ) → live r i ≡ true → r .reads i ≡ p .reads i = λ i e. overtaken-open (p .reads) true x t v i (and-parts (ltb i slots) (is-open (r .reads i)) e .1) in
         put-valued g R L S s r (spread (S .lanes) s (g .n) m) f h (λ sn. right-same s p r (h .servers s sn) refl refl er) (still-same p r er)
-          (λ a b an bn ne q. spread-told (λ a b. Told g R L a (upd (S .servers) s r a) (upd (S .servers) s r b)) s m a b (λ _. tt) q)
+        (λ a b an bn ne q. spread-told (λ a b. Told g R L a (upd (S .servers) s r a) (upd (S .servers) s r b)) s m a b (λ _. tt) q)
 
     pub write-valued : (s x : ℕ) (v : List ℕ) → Kept (write g S s x v)
     unfolding write
@@ -149,18 +140,21 @@ module _ (g : Code) (R : Lawful g) (L : List Entry) (cells : Cells g R L) where
         let q = h .servers s sn in
         let rs = upd (p .reads) i (new-read p s x) in
         record {
-          symbol = q .symbol
-        ; object = λ j e. elim (cases-eq j i) [
-            inl w ↦ rw (w, upd-same (p .reads) i (new-read p s x)) xk
-          | inr ne ↦ rw (upd-other (p .reads) i j (new-read p s x) ne) (q .object j (rw (upd-other (p .reads) i j (new-read p s x) ne) at e)) ]
-        ; hand = λ j e k kn w. elim (cases-eq j i) [
-            inl z ↦
-              let u : rs j ≡ new-read p s x = ap rs z ∙ upd-same (p .reads) i (new-read p s x) in
-              let ks : k ≡ s = eqb-true k s (sym (ap (λ (r : Read). r .hand k) u) ∙ w) in
-              rw (u, ks) (q .symbol)
-          | inr ne ↦
-              let u = upd-other (p .reads) i j (new-read p s x) ne in
-              rw u (q .hand j (rw u at e) k kn (rw u at w)) ] }
+          symbol = q .symbol;
+          object = λ j e. elim (cases-eq j i) [
+            | inl w ↦ rw (w, upd-same (p .reads) i (new-read p s x)) xk
+            | inr ne ↦ rw (upd-other (p .reads) i j (new-read p s x) ne) (q .object j (rw (upd-other (p .reads) i j (new-read p s x) ne) at e))
+          ];
+          hand = λ j e k kn w. elim (cases-eq j i) [
+            | inl z ↦
+                let u : rs j ≡ new-read p s x = ap rs z ∙ upd-same (p .reads) i (new-read p s x) in
+                let ks : k ≡ s = eqb-true k s (sym (ap (λ (r : Read). r .hand k) u) ∙ w) in
+                rw (u, ks) (q .symbol)
+            | inr ne ↦
+                let u = upd-other (p .reads) i j (new-read p s x) ne in
+                rw u (q .hand j (rw u at e) k kn (rw u at w))
+          ];
+        }
 
     opening-still : (s i x : ℕ) → Still-reads (S .servers s) (opening (S .servers s) s i x)
     unfolding opening
@@ -168,17 +162,22 @@ module _ (g : Code) (R : Lawful g) (L : List Entry) (cells : Cells g R L) where
         let p = S .servers s in
         let rs = upd (p .reads) i (new-read p s x) in
         elim (cases-eq j i) [
-          inl z ↦ inr (rw (z, upd-same (p .reads) i (new-read p s x)) (omega arith))
-        | inr ne ↦ let u = upd-other (p .reads) i j (new-read p s x) ne in
-            inl (record { was = rw u at e; number = ap (λ (r : Read). r .number) u; object = ap (λ (r : Read). r .object) u; tags = ap (λ (r : Read). r .tags) u }) ]
+          | inl z ↦ inr (rw (z, upd-same (p .reads) i (new-read p s x)) (omega arith))
+          | inr ne ↦ let u = upd-other (p .reads) i j (new-read p s x) ne in
+              inl (record { was = rw u at e; number = ap (λ (r : Read). r .number) u; object = ap (λ (r : Read). r .object) u; tags = ap (λ (r : Read). r .tags) u })
+        ]
 
     -- the new question
     opening-told : (s i x : ℕ) → x < g .k → (b : ℕ) → (r : Server) → Told g R L s (opening (S .servers s) s i x) r (Question (S .servers s .opened + 1) x (listed (g .k) (S .servers s .own)))
     unfolding opening
-    opening-told s i x xk b r = (xk, λ j e n. elim (cases-eq j i) [
-        inl z ↦ rw (z, upd-same (S .servers s .reads) i (new-read (S .servers s) s x)) (refl, λ y yk. sym (getD-map-counting (S .servers s .own) 0 (g .k) y y 0 yk (omega arith)))
-      | inr ne ↦ absurd (let u = upd-other (S .servers s .reads) i j (new-read (S .servers s) s x) ne in
-          let l = f .reads s j (rw u at e) .0 in let m : S .servers s .reads j .number ≡ S .servers s .opened + 1 = rw u at n in omega arith) ])
+    opening-told s i x xk b r = (
+      xk,
+      λ j e n. elim (cases-eq j i) [
+        | inl z ↦ rw (z, upd-same (S .servers s .reads) i (new-read (S .servers s) s x)) (refl, λ y yk. sym (getD-map-counting (S .servers s .own) 0 (g .k) y y 0 yk (omega arith)))
+        | inr ne ↦ absurd (let u = upd-other (S .servers s .reads) i j (new-read (S .servers s) s x) ne in
+            let l = f .reads s j (rw u at e) .0 in let m : S .servers s .reads j .number ≡ S .servers s .opened + 1 = rw u at n in omega arith)
+      ],
+    )
 
     open-valued : (s i x : ℕ) → s < g .n → x < g .k → Valued g R L (open-done g S s i x)
     unfolding open-done
@@ -187,8 +186,8 @@ module _ (g : Code) (R : Lawful g) (L : List Entry) (cells : Cells g R L) where
         let r = opening p s i x in
         let m = Question (p .opened + 1) x (listed (g .k) (p .own)) in
         put-valued g R L S s r (spread (S .lanes) s (g .n) m) f h (λ _. opening-right s i x sn xk) (opening-still s i x)
-          (λ a b an bn ne q. spread-told (λ a b. Told g R L a (upd (S .servers) s r a) (upd (S .servers) s r b)) s m a b
-            (λ e. rw (e, upd-same (S .servers) s r) (opening-told s i x xk b (upd (S .servers) s r b))) q)
+        (λ a b an bn ne q. spread-told (λ a b. Told g R L a (upd (S .servers) s r a) (upd (S .servers) s r b)) s m a b
+        (λ e. rw (e, upd-same (S .servers) s r) (opening-told s i x xk b (upd (S .servers) s r b))) q)
 
     pub read-valued : (s x l : ℕ) (d : Found) → Kept (read g S s x l d)
     unfolding read read-found open-read
@@ -209,9 +208,9 @@ module _ (g : Code) (R : Lawful g) (L : List Entry) (cells : Cells g R L) where
         let p = S .servers s in
         let r = moved p s x t v in
         put-valued g R L S s r (spread (S .lanes) s (g .n) (Tagged x t)) f h
-          (λ sn. record { symbol = new sn; object = h .servers s sn .object; hand = h .servers s sn .hand })
-          (still-same p r (λ i e. refl))
-          (λ a b an bn ne q. spread-told (λ a b. Told g R L a (upd (S .servers) s r a) (upd (S .servers) s r b)) s (Tagged x t) a b (λ _. tt) q)
+        (λ sn. record { symbol = new sn; object = h .servers s sn .object; hand = h .servers s sn .hand })
+        (still-same p r (λ i e. refl))
+        (λ a b an bn ne q. spread-told (λ a b. Told g R L a (upd (S .servers) s r a) (upd (S .servers) s r b)) s (Tagged x t) a b (λ _. tt) q)
 
     enter-valued : (s : ℕ) (e : Entry) → Valued g R L (enter-done g S s e)
     unfolding enter-done entered
@@ -243,26 +242,27 @@ module _ (g : Code) (R : Lawful g) (L : List Entry) (cells : Cells g R L) where
         let sn = object-server g s x ok in
         let xk = object-object g s x ok in
         cond-both (has g s x) contained other Kept
-          (λ i. cond-both (leb t (p .own x)) (turn (Outcome 0) S) second Kept (λ _. h) (λ hi.
-            cond-both (holds (p .history) x (p .own x)) moving third Kept
-              (λ held. unless-both Kept (check (room g S s) 17 0) S move h (λ _. move-valued s x t sym′ (λ _.
-                 swap-mix g R L s x t (p .own) old new (p .symbol) cells sn xk
-                   (kept-right g R L (p .history) x (p .own x) cells (src .servers s .history) held)
-                   (kept-right g R L (p .history) x t cells (src .servers s .history) (top-held s x hi)) (h .servers s sn .symbol))))
-            (λ _. cond-both (is-open (p .reads (clients + x))) (turn (Outcome 2) S) fourth Kept (λ _. h)
-            (λ _. cond-both (d .recovered) entering asking Kept
-              (λ _. unless-both Kept (check (history-room g S s) 15 0) S enter h (λ _. enter-valued s e))
-              (λ _. unless-both Kept (check (ltb (p .opened) most-reads) 14 (check (room g S s) 17 0)) S ask h (λ _. open-valued s (clients + x) x sn xk))))))
-          (λ i. cond-both (leb u (p .own x)) (turn (Outcome 0) S) (unless (check (room g S s) 17 0) S other-move) Kept (λ _. h) (λ hi.
-            unless-both Kept (check (room g S s) 17 0) S other-move h (λ _. move-valued s x u (p .symbol) (λ _.
-              mix-tags g R L s (p .own) (upd (p .own) x u) (p .symbol) cells
-                (λ y yk. elim (cases-eq y x) [
-                    inl z ↦ inr (rw z (eqb-true (g .coefficient s x) 0 (not-false (eqb (g .coefficient s x) 0) i)))
-                  | inr ne ↦ inl (sym (upd-other (p .own) x y u ne)) ])
-                (h .servers s sn .symbol))))))
+        (λ i. cond-both (leb t (p .own x)) (turn (Outcome 0) S) second Kept (λ _. h) (λ hi.
+        cond-both (holds (p .history) x (p .own x)) moving third Kept
+        (λ held. unless-both Kept (check (room g S s) 17 0) S move h (λ _. move-valued s x t sym′ (λ _.
+        swap-mix g R L s x t (p .own) old new (p .symbol) cells sn xk
+        (kept-right g R L (p .history) x (p .own x) cells (src .servers s .history) held)
+        (kept-right g R L (p .history) x t cells (src .servers s .history) (top-held s x hi)) (h .servers s sn .symbol))))
+        (λ _. cond-both (is-open (p .reads (clients + x))) (turn (Outcome 2) S) fourth Kept (λ _. h)
+        (λ _. cond-both (d .recovered) entering asking Kept
+        (λ _. unless-both Kept (check (history-room g S s) 15 0) S enter h (λ _. enter-valued s e))
+        (λ _. unless-both Kept (check (ltb (p .opened) most-reads) 14 (check (room g S s) 17 0)) S ask h (λ _. open-valued s (clients + x) x sn xk))))))
+        (λ i. cond-both (leb u (p .own x)) (turn (Outcome 0) S) (unless (check (room g S s) 17 0) S other-move) Kept (λ _. h) (λ hi.
+        unless-both Kept (check (room g S s) 17 0) S other-move h (λ _. move-valued s x u (p .symbol) (λ _.
+        mix-tags g R L s (p .own) (upd (p .own) x u) (p .symbol) cells
+        (λ y yk. elim (cases-eq y x) [
+          | inl z ↦ inr (rw z (eqb-true (g .coefficient s x) 0 (not-false (eqb (g .coefficient s x) 0) i)))
+          | inr ne ↦ inl (sym (upd-other (p .own) x y u ne))
+        ])
+        (h .servers s sn .symbol))))))
       where
         top-held : (s x : ℕ) → leb (top-tag x (S .servers s .history)) (S .servers s .own x) ≡ false → holds (S .servers s .history) x (top-tag x (S .servers s .history)) ≡ true
         top-held s x e =
             let lt = leb-false (top-tag x (S .servers s .history)) (S .servers s .own x) e in
             ⊎-elim (λ (z : top-tag x (S .servers s .history) ≡ 0). absurd (omega arith)) (λ z. or-right (eqb (top-tag x (S .servers s .history)) 0) (enters (S .servers s .history) x (top-tag x (S .servers s .history))) (z .0))
-              (highest-found (λ _. true) x (S .servers s .history))
+            (highest-found (λ _. true) x (S .servers s .history))

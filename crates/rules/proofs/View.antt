@@ -1,24 +1,24 @@
 -- A ranked state seen as one with tags, and what the words of the rules say of it.
-use mathlib.Core.Path.{_≡_, refl, sym, ap, ap₂, _∙_, subst, fun-ext}
+use mathlib.Core.Path.{_≡_, refl, sym, ap, ap₂, _∙_, fun-ext}
 use mathlib.Core.List.{List, [], _∷_, _++_, map}
 use mathlib.Core.Bool.{Bool, true, false, cond, _&&_, _||_, not}
-use mathlib.Core.Logic.{_⊎_, inl, inr, ⊎-elim}
-use Prim.Native.Nat.{ℕ, zero, suc, _+_, _*_, _/_, _%_, _<_, _≤_, min, max}
+use mathlib.Core.Logic.{inl, inr}
+use Prim.Native.Nat.{ℕ, zero, suc, _+_, _*_, _/_, _%_, _<_, min, max}
 use native.Mathlib.Omega.{arith}
 use lib.Dec.{eqb, ltb, leb}
-use lib.ListN.{length, getD, take, drop, length-map}
+use lib.ListN.{getD, take, drop, length-map}
 use Rattle.std.specs.Iters.{folded}
 use Rattle.std.specs.shelf.Lists.{kept-by}
 use Rattle.std.specs.declared.option.Option.{Option}
 use Rattle.std.specs.declared.option.Option.the-variants.{None, Some}
 use Rattle.std.proofs.shelf.Ways.{tells}
-use Rattle.std.proofs.shelf.Tests.{cases-bool, cond-true, cond-false, cond-both, ltb-true}
+use Rattle.std.proofs.shelf.Tests.{cases-bool, cond-both, ltb-true}
 use Rattle.std.proofs.shelf.Lists.{map-append}
 use Rattle.terms.specs.Lists.{listed}
 use Rattle.terms.specs.declared.refusal.Refusal.{Refusal}
 use Rattle.terms.specs.declared.refusal.Refusal.the-variants.{NoSuchServer, NoSuchObject, WrongLength, NoSuchRead, NoElement, EqualEnds, LaneEmpty, NumbersUsedUp, HistoryFull, ReadsFull, LaneFull, WaitingFull}
 use Rattle.message.specs.declared.tag.Tag as declared
-use Rattle.message.specs.Tags.{zero-tag, lower, same, rank}
+use Rattle.message.specs.Tags.{lower, same, rank}
 use Rattle.message.specs.Meanings.{Meaning}
 use Rattle.message.proofs.Order.{lower-rank, same-rank}
 use Rattle.rules.specs.Words.{upd, every, some, or-else, first-below}
@@ -30,10 +30,10 @@ use Rattle.rules.specs.Encoding as encoding
 use Rattle.rules.specs.State as model
 use Rattle.rules.specs.State.{Free, Open, Answered}
 use Rattle.rules.specs.Turns as turns
-use Rattle.rules.proofs.RankedMessages.{Message, Written, Tagged, Question, Plain, Coded, tag, height, server}
+use Rattle.rules.proofs.RankedMessages.{Message, Tagged, tag, height, server}
 use Rattle.rules.proofs.Unranked.{tag-at, message-at}
 use Rattle.rules.proofs.RankedWords.{seek, lowest, Lanes}
-use Rattle.rules.proofs.Ranked.{Code, layout-of, Entry, Waiting, Read, Server, State, zeros, same-entry, enters, holds, entered-value, kept, highest, top-tag, is-open, fresh}
+use Rattle.rules.proofs.Ranked.{Code, layout-of, Entry, Waiting, Read, Server, State, zeros, same-entry, enters, holds, entered-value, kept, highest, top-tag, fresh}
 use Rattle.rules.proofs.RankedSteps as Steps
 use Rattle.rules.proofs.RankedSteps.{Answer, Refused, Tag, Value, Number, Still, Nothing, Outcome, Count, Turn}
 
@@ -56,8 +56,16 @@ read-at r = cond (eqb (r .state) 0) Free (cond (eqb (r .state) 1) (Open (asking-
 
 abbrev pub server-at : Server → model.Server
 server-at p = record {
-    clock = p .clock; top = p .top; symbol = p .symbol; own = λ x. tag-at (p .own x); told = λ x j. tag-at (p .told x j)
-  ; history = map entry-at (p .history); waiting = map waiting-at (p .waiting); reads = λ i. read-at (p .reads i); opened = p .opened }
+  clock = p .clock;
+  top = p .top;
+  symbol = p .symbol;
+  own = λ x. tag-at (p .own x);
+  told = λ x j. tag-at (p .told x j);
+  history = map entry-at (p .history);
+  waiting = map waiting-at (p .waiting);
+  reads = λ i. read-at (p .reads i);
+  opened = p .opened;
+}
 
 abbrev pub lanes-at : Lanes → lanes.Lanes Meaning
 lanes-at L a b = map message-at (L a b)
@@ -219,8 +227,9 @@ pub data Shape (r : Read) : Type 0 where
 
 pub shape : (r : Read) → Shape r
 shape r = elim (cases-bool (eqb (r .state) 0)) [
-    inl q ↦ shape-free q (let z : eqb (r .state) 1 ≡ false = grind (arith, tells) in z) (rw q)
-  | inr q ↦ elim (cases-bool (eqb (r .state) 1)) [ inl w ↦ shape-open q w (rw (q, w)) | inr w ↦ shape-answered q w (rw (q, w)) ] ]
+  | inl q ↦ shape-free q (let z : eqb (r .state) 1 ≡ false = grind (arith, tells) in z) (rw q)
+  | inr q ↦ elim (cases-bool (eqb (r .state) 1)) [ inl w ↦ shape-open q w (rw (q, w)) | inr w ↦ shape-answered q w (rw (q, w)) ]
+]
 
 -- ---- lanes
 

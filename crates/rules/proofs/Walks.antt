@@ -1,11 +1,10 @@
 -- Along a lane: what is appended, what is taken.
-use mathlib.Core.Path.{_≡_, refl, sym, ap, _∙_, subst}
-use mathlib.Core.List.{List, [], _∷_, _++_, append-nil}
-use mathlib.Core.Bool.{Bool, true, false, cond}
+use mathlib.Core.Path.{_≡_, refl, ap, _∙_}
+use mathlib.Core.List.{List, [], _∷_, _++_}
 use mathlib.Core.Logic.{_⊎_, inl, inr, ⊎-elim}
-use Prim.Native.Nat.{ℕ, zero, suc, _+_, _<_, _≤_}
+use Prim.Native.Nat.{ℕ, _+_, _≤_}
 use native.Mathlib.Omega.{arith}
-use Rattle.rules.proofs.RankedMessages.{Message, Written, Tagged, Question, Plain, Coded}
+use Rattle.rules.proofs.RankedMessages.{Message}
 use Rattle.rules.proofs.Core.{heard, after, Chain, On}
 
 -- the last of a chain

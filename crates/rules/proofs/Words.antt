@@ -1,17 +1,16 @@
 -- What the words of the model say.
-use mathlib.Core.Path.{_≡_, refl, sym, ap, _∙_, subst}
+use mathlib.Core.Path.{_≡_, refl, sym, ap, _∙_}
 use mathlib.Core.List.{List, [], _∷_, _++_}
-use mathlib.Core.Bool.{Bool, true, false, cond, _&&_, _||_, not}
+use mathlib.Core.Bool.{Bool, true, false, cond, _&&_, _||_}
 use mathlib.Core.Logic.{_⊎_, inl, inr, ⊎-elim}
-use Prim.Native.Nat.{ℕ, zero, suc, _+_, _<_, _≤_, min, max}
+use Prim.Native.Nat.{ℕ, zero, suc, _+_, _<_, _≤_, max}
 use native.Mathlib.Omega.{arith}
-use lib.Dec.{eqb, ltb, leb}
-use lib.ListN.{getD, length, drop}
+use lib.Dec.{eqb, ltb}
 use Rattle.std.specs.shelf.Lists.{kept-by}
 use Rattle.std.proofs.shelf.Ways.{tells}
-use Rattle.std.proofs.shelf.Tests.{both-ways, cases-bool, cases-eq, cases-order, cases-lt, eq-eqb, ne-eqb, eqb-true, eqb-false, ltb-true, ltb-false, leb-true, leb-false, lt-ltb, and-parts, and-from, and-cases, or-cases, or-parts, or-left, or-right, not-true, not-false, cond-both, cond-true, cond-false}
-use Rattle.rules.proofs.RankedMessages.{Message, Written, Tagged, Question, Plain, Coded, tag}
-use Rattle.rules.proofs.RankedWords.{upd, listed, every, some, seek, lowest, Lanes, posted, spread, taken, free}
+use Rattle.std.proofs.shelf.Tests.{both-ways, cases-bool, cases-eq, cases-lt, eq-eqb, ne-eqb, eqb-true, ltb-true, and-parts, and-from, or-cases, or-left, or-right, cond-both}
+use Rattle.rules.proofs.RankedMessages.{tag}
+use Rattle.rules.proofs.RankedWords.{upd, every, some, seek, lowest}
 use Rattle.rules.proofs.Ranked.{Entry, same-entry, enters, holds, highest, top-tag}
 
 pub upd-same : {A : Type 0} (f : ℕ → A) (i : ℕ) (v : A) → upd f i v i ≡ v
@@ -48,24 +47,28 @@ pub some-from : (n : ℕ) (f : ℕ → Bool) (i : ℕ) → i < n → f i ≡ tru
 unfolding some
 some-from zero f i lt e = absurd (omega arith)
 some-from (suc n) f i lt e = elim (cases-eq i n) [
-    inl q ↦ or-right (some n f) (f n) (rw q at e)
-  | inr ne ↦ or-left (some n f) (f n) (some-from n f i (omega arith) e) ]
+  | inl q ↦ or-right (some n f) (f n) (rw q at e)
+  | inr ne ↦ or-left (some n f) (f n) (some-from n f i (omega arith) e)
+]
 
 pub seek-found : (n : ℕ) (f : ℕ → Bool) → seek n f < n → f (seek n f) ≡ true
 unfolding seek
 seek-found zero f lt = absurd (omega arith)
 seek-found (suc n) f lt = elim (cases-bool (ltb (seek n f) n)) [
-    inl e ↦ rw e (seek-found n f (ltb-true (seek n f) n e))
+  | inl e ↦ rw e (seek-found n f (ltb-true (seek n f) n e))
   | inr e ↦ elim (cases-bool (f n)) [
-      inl q ↦ rw (e, q) q
-    | inr q ↦ absurd (let z : suc n < suc n = rw (e, q) at lt in omega arith) ] ]
+    | inl q ↦ rw (e, q) q
+    | inr q ↦ absurd (let z : suc n < suc n = rw (e, q) at lt in omega arith)
+  ]
+]
 
 pub lowest-le : (n : ℕ) (f : ℕ → ℕ) (i : ℕ) → i < n → lowest n f ≤ f i
 unfolding lowest
 lowest-le zero f i lt = absurd (omega arith)
 lowest-le (suc n) f i lt = elim (cases-eq i n) [
-    inl e ↦ rw e (omega arith)
-  | inr ne ↦ let l = lowest-le n f i (omega arith) in omega arith ]
+  | inl e ↦ rw e (omega arith)
+  | inr ne ↦ let l = lowest-le n f i (omega arith) in omega arith
+]
 
 -- ---- histories
 
@@ -102,13 +105,17 @@ enters-sift f K h (e ∷ es) x t = cond-both (f e) (e ∷ kept-by f es) (kept-by
   where
     at : same-entry x t e ≡ true → K (e .object) (e .tag) ≡ K x t
     at s = let p = and-parts (eqb (e .object) x) (eqb (e .tag) t) s in rw (eqb-true (e .object) x (p .0), eqb-true (e .tag) t (p .1))
+
     at-same : same-entry x t e ≡ true → K (e .object) (e .tag) ≡ true → K x t ≡ true
     at-same s q = sym (at s) ∙ q
+
     at-gone : same-entry x t e ≡ true → K (e .object) (e .tag) ≡ false → K x t ≡ false
     at-gone s q = sym (at s) ∙ q
+
     stay : (a b c : Bool) → (a ≡ true → c ≡ true) → (a || (b && c)) ≡ ((a || b) && c)
     stay true b c q = sym (q refl)
     stay false b c q = refl
+
     leave : (a b c : Bool) → (a ≡ true → c ≡ false) → (b && c) ≡ ((a || b) && c)
     leave true true c q = refl
     leave true false c q = sym (q refl)
@@ -120,17 +127,17 @@ unfolding highest enters
 highest-found f x [] = inl refl
 highest-found f x (e ∷ es) = cond-both (eqb (e .object) x && f (e .tag)) (max (e .tag) (highest f x es)) (highest f x es) (λ m. (m ≡ 0) ⊎ ((same-entry x m e || enters es x m) ≡ true) × (f m ≡ true))
     (λ q. let p = and-parts (eqb (e .object) x) (f (e .tag)) q in
-       elim (cases-lt (highest f x es) (e .tag)) [
-         inl lt ↦ let m : max (e .tag) (highest f x es) ≡ e .tag = omega arith in
-           rw m (inr (or-left (same-entry x (e .tag) e) (enters es x (e .tag)) (and-from (eqb (e .object) x) (eqb (e .tag) (e .tag)) (p .0) (eq-eqb (e .tag) (e .tag) refl)), p .1))
-       | inr le ↦ let m : max (e .tag) (highest f x es) ≡ highest f x es = omega arith in rw m (later (highest-found f x es)) ])
+    elim (cases-lt (highest f x es) (e .tag)) [
+      | inl lt ↦ let m : max (e .tag) (highest f x es) ≡ e .tag = omega arith in
+          rw m (inr (or-left (same-entry x (e .tag) e) (enters es x (e .tag)) (and-from (eqb (e .object) x) (eqb (e .tag) (e .tag)) (p .0) (eq-eqb (e .tag) (e .tag) refl)), p .1))
+      | inr le ↦ let m : max (e .tag) (highest f x es) ≡ highest f x es = omega arith in rw m (later (highest-found f x es))
+    ])
     (λ q. later (highest-found f x es))
   where
     later : (highest f x es ≡ 0) ⊎ ((enters es x (highest f x es) ≡ true) × (f (highest f x es) ≡ true))
-          → (highest f x es ≡ 0) ⊎ (((same-entry x (highest f x es) e || enters es x (highest f x es)) ≡ true) × (f (highest f x es) ≡ true))
+        → (highest f x es ≡ 0) ⊎ (((same-entry x (highest f x es) e || enters es x (highest f x es)) ≡ true) × (f (highest f x es) ≡ true))
     later (inl z) = inl z
     later (inr z) = inr (or-right (same-entry x (highest f x es) e) (enters es x (highest f x es)) (z .0), z .1)
-
 
 -- ---- tags that change from one object to the next
 
@@ -162,8 +169,9 @@ pub top-push : (x : ℕ) (es : List Entry) (e : Entry) → top-tag x (es ++ e �
 unfolding highest
 top-push x [] e = elim (cases-bool (eqb (e .object) x)) [ inl q ↦ rw q (omega arith) | inr q ↦ rw q ]
 top-push x (d ∷ es) e = elim (cases-bool (eqb (d .object) x)) [
-    inl q ↦ rw q (ap (max (d .tag)) (top-push x es e) ∙ elim (cases-bool (eqb (e .object) x)) [ inl w ↦ rw w (omega arith) | inr w ↦ rw w ])
-  | inr q ↦ rw q (top-push x es e) ]
+  | inl q ↦ rw q (ap (max (d .tag)) (top-push x es e) ∙ elim (cases-bool (eqb (e .object) x)) [ inl w ↦ rw w (omega arith) | inr w ↦ rw w ])
+  | inr q ↦ rw q (top-push x es e)
+]
 
 pub top-bound : (x t : ℕ) (es : List Entry) → enters es x t ≡ true → t ≤ top-tag x es
 unfolding highest enters

@@ -1,5 +1,5 @@
 -- Deliver: what each kind of message does where it arrives. Assumes nothing.
-use mathlib.Core.Bool.{Bool, true, false, cond, _&&_, _||_, not}
+use mathlib.Core.Bool.{Bool, cond, _&&_, not}
 use mathlib.Core.List.{List, [], _∷_, _++_}
 use Prim.Native.Nat.{ℕ, zero, suc}
 use lib.Dec.{eqb, ltb}
@@ -14,10 +14,10 @@ use Rattle.message.specs.declared.tag.Tag.{Tag}
 use Rattle.message.specs.Tags.{zero-tag, same}
 use Rattle.message.specs.Meanings.{Meaning, write-notice, tag-notice, question, plain-reply, coded-reply}
 use Rattle.message.specs.Ranges.{in-range}
-use Rattle.code.specs.Codings.{contains, re-encoded}
+use Rattle.code.specs.Codings.{contains}
 use Rattle.rules.specs.Words.{upd, first-below}
 use Rattle.rules.specs.Lanes.{posted, taken}
-use Rattle.rules.specs.Histories.{Entry, holds, value-under, zero-record}
+use Rattle.rules.specs.Histories.{holds, value-under}
 use Rattle.rules.specs.State.{Layout, Waiting, Asking, Read, Free, Open, Answered, Server, State, all-reads}
 use Rattle.rules.specs.Updates.{entered, queued, reading, hearing, answered, in-hand, is-open-as}
 use Rattle.rules.specs.Turns.{Found, Turn, turn, check, unless, Refused, Outcome}

@@ -2,13 +2,12 @@
 use mathlib.Core.Path.{_≡_}
 use mathlib.Core.Bool.{false, true}
 use mathlib.Core.List.{List, [], _∷_, map}
-use Prim.Native.Nat.{ℕ}
 use Rattle.message.specs.declared.tag.Tag.{Tag}
 use Rattle.message.specs.Tags.{zero-tag}
 use Rattle.field.specs.Modular.{modulo}
 use Rattle.code.specs.Layout.{coding}
 use Rattle.rules.specs.State.{Layout, new-group}
-use Rattle.rules.specs.Turns.{Call, Write, Read, Deliver, Apply, Encode, Answer, Tagged, Valued, Outcome, Found}
+use Rattle.rules.specs.Turns.{Call, Write, Read, Deliver, Apply, Encode, Tagged, Valued, Outcome, Found}
 use Rattle.rules.specs.Runs.{Move, run, Allowed-run}
 use Rattle.rules.specs.Events.{Event, events}
 

@@ -1,7 +1,7 @@
 -- The law over all runs. Assumes nothing.
 use mathlib.Core.Path.{_≡_}
 use mathlib.Core.Bool.{Bool, true, false, _||_}
-use mathlib.Core.List.{List, [], _∷_, _++_}
+use mathlib.Core.List.{List, _∷_, _++_}
 use Prim.Native.Nat.{ℕ, suc, _<_}
 use lib.Dec.{eqb}
 use lib.ListN.{length, getD}
@@ -14,7 +14,7 @@ use Rattle.code.specs.Recovery.{Recovers}
 use Rattle.code.specs.Layout.{Accepted}
 use Rattle.rules.specs.Histories.{Entry, has-entry, holds}
 use Rattle.rules.specs.State.{Layout, State, Given, Answered, new-group}
-use Rattle.rules.specs.Turns.{Call, Write, Read, Collect, Deliver, Answer, Tagged, Valued, Numbered, Still-open, Outcome}
+use Rattle.rules.specs.Turns.{Write, Read, Collect, Deliver, Tagged, Valued, Numbered, Outcome}
 use Rattle.rules.specs.Runs.{Move, run, Allowed-run}
 use Rattle.rules.specs.Events.{Event, events, accepted, applied, latest, given, Followed, just-opened, reads-of}
 

@@ -1,6 +1,5 @@
 -- Read and collect, and the opening of a read. Assumes nothing.
-use mathlib.Core.Bool.{Bool, true, false, cond, _&&_, _||_, not}
-use mathlib.Core.List.{List}
+use mathlib.Core.Bool.{Bool, cond, _&&_, _||_, not}
 use Prim.Native.Nat.{ℕ, _+_}
 use lib.Dec.{eqb, ltb}
 use Rattle.std.specs.declared.option.Option.{Option}
@@ -15,7 +14,7 @@ use Rattle.message.specs.Meanings.{question}
 use Rattle.rules.specs.Words.{upd, first-below}
 use Rattle.rules.specs.Lanes.{spread}
 use Rattle.rules.specs.Histories.{highest-held, value-under}
-use Rattle.rules.specs.State.{Layout, Read, Free, Open, Answered, Given, Server, State}
+use Rattle.rules.specs.State.{Layout, Read, Free, Open, Answered, Server, State}
 use Rattle.rules.specs.Updates.{opening, reading, is-free, has-number}
 use Rattle.rules.specs.Turns.{Found, Turn, turn, check, unless, Valued, Numbered, Still-open}
 use Rattle.rules.specs.Writing.{put, room}

@@ -4,16 +4,16 @@ use mathlib.Core.Bool.{Bool, true}
 use mathlib.Core.List.{List, [], _∷_}
 use Prim.Native.Nat.{ℕ, _<_}
 use lib.Dec.{eqb}
-use lib.ListN.{getD}
 use Rattle.std.specs.Orderings.{Decides}
 use Rattle.std.specs.declared.option.Option.{Option}
 use Rattle.std.specs.declared.option.Option.the-variants.{None, Some}
+use Rattle.terms.specs.declared.refusal.Refusal.{Refusal}
 use Rattle.message.specs.declared.tag.Tag.{Tag}
 use Rattle.message.specs.Meanings.{Meaning, write-notice, tag-notice, question, plain-reply, coded-reply}
 use Rattle.code.specs.Recovery.{Recovers, Decoded}
 use Rattle.rules.specs.State.{Layout, Asking, Read, Free, Open, Answered, Server, State}
 use Rattle.rules.specs.Updates.{in-hand}
-use Rattle.rules.specs.Turns.{Call, Write, Read as ReadCall, Collect, Deliver, Apply, Encode, Sweep, Answer, Found, Turn}
+use Rattle.rules.specs.Turns.{Call, Write, Read as ReadCall, Collect, Deliver, Apply, Encode, Sweep, Refused, Found, Turn}
 use Rattle.rules.specs.Writing.{write, apply}
 use Rattle.rules.specs.Reading.{read, collect}
 use Rattle.rules.specs.Encoding.{encode, sweep}
@@ -92,3 +92,7 @@ module _ (l : Layout) where
   abbrev pub Allowed-run : State → List Move → Type 0
   Allowed-run S [] = Unit {0}
   Allowed-run S (m ∷ ms) = Allowed S (m .call) (m .found) × Allowed-run (after S m) ms
+
+-- A refused call changes nothing, whichever call it is, in every state and whatever is found.
+abbrev pub Refusals-change-nothing : Type 0
+Refusals-change-nothing = (l : Layout) (S : State) (c : Call) (f : Found) (r : Refusal) → step l S c f .answer ≡ Refused r → step l S c f .next ≡ S

@@ -1,5 +1,5 @@
 -- What a group keeps: its servers and its lanes. Assumes nothing.
-use mathlib.Core.Bool.{Bool, true, false}
+use mathlib.Core.Bool.{Bool}
 use mathlib.Core.List.{List, []}
 use Prim.Native.Nat.{ℕ, _+_}
 use Rattle.terms.specs.Limits.{max-client-reads, max-objects}

@@ -8,7 +8,7 @@ use Rattle.message.specs.declared.tag.Tag.{Tag}
 use Rattle.message.specs.Tags.{lower}
 use Rattle.rules.specs.Words.{upd}
 use Rattle.rules.specs.Histories.{Entry}
-use Rattle.rules.specs.State.{Waiting, Asking, Given, Read, Free, Open, Answered, Server}
+use Rattle.rules.specs.State.{Waiting, Asking, Read, Free, Open, Answered, Server}
 
 -- an entry more in the history
 unfoldable pub entered : Server → Entry → Server

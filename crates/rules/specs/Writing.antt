@@ -1,6 +1,6 @@
 -- Write, apply, and the applying of a write. Assumes nothing.
-use mathlib.Core.Bool.{Bool, true, false, cond, _&&_, _||_}
-use mathlib.Core.List.{List, [], _∷_, _++_}
+use mathlib.Core.Bool.{Bool, true, false, cond, _&&_}
+use mathlib.Core.List.{List, [], _++_}
 use Prim.Native.Nat.{ℕ, zero, suc, _+_}
 use lib.Dec.{eqb, ltb, leb}
 use lib.ListN.{length, getD, take, drop}
@@ -15,7 +15,6 @@ use Rattle.message.specs.Tags.{zero-tag, lower}
 use Rattle.message.specs.Meanings.{Meaning, write-notice}
 use Rattle.rules.specs.Words.{upd, every}
 use Rattle.rules.specs.Lanes.{Lanes, spread, free}
-use Rattle.rules.specs.Histories.{Entry}
 use Rattle.rules.specs.State.{Layout, Waiting, Server, State}
 use Rattle.rules.specs.Updates.{entered, counted, queued, reading, overtaken}
 use Rattle.rules.specs.Turns.{Turn, turn, check, unless, Tagged, Nothing-ready}
