@@ -8,6 +8,8 @@ use Rattle.field.specs.Binary.{gf256}
 use Rattle.code.specs.Codings.{Coding, symbol, value-at}
 use Rattle.code.specs.Layout.{coding}
 use Rattle.code.specs.Recovery.{Recovers}
+use Rattle.wire.specs.Examples.{Byte-figures}
+use Rattle.rules.specs.Figures.{Small-run}
 
 -- five servers and three objects of one cell: each object by itself, their sum, and the sum with the middle one twice
 abbrev pub five-by-three : Coding
@@ -24,3 +26,7 @@ pub record Figures : Type 0 where
   pub symbol-at-4 : symbol five-by-three 4 three-values ≡ 248 ∷ []
   pub servers-3-and-4-recover-1 : Recovers five-by-three (among (3 ∷ 4 ∷ [])) 1
   pub servers-3-and-4-do-not-recover-0 : Recovers five-by-three (among (3 ∷ 4 ∷ [])) 0 → ⊥
+  -- two messages, byte for byte, written and read back
+  pub messages-as-bytes : Byte-figures
+  -- a write, a read, a delivery, an apply and an encode in a group of three
+  pub a-small-run : Small-run

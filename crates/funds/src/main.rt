@@ -1,4 +1,5 @@
 // Fund records shared by six offices: what each office keeps, and what is left when some are out of reach.
+mod lines;
 mod offices;
 mod report;
 
@@ -16,5 +17,6 @@ fn run(rt: &LibcRuntime) -> Result<(), AnyError> {
     report::records(rt)?;
     report::task(rt, Mod251, "Over the whole numbers modulo 251")?;
     report::task(rt, Gf256, "Over GF(256)")?;
-    Ok(())
+    lines::notice_as_bytes(rt)?;
+    lines::both_carriers(rt)
 }

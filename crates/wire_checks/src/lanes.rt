@@ -51,7 +51,12 @@ fn round<C: Carrier>(c: &mut C, from: usize, to: usize, first: u32) -> Result<()
     check_eq(refused(c.post(from, to, numbered(0)?)), 23)
 }
 
-// Every lane, three times round; a message stays in each lane meanwhile.
+// A number for each lane.
+fn mark(from: usize, to: usize) -> u32 {
+    (from.min(6) * 10 + to.min(6) + 1) as u32
+}
+
+// Every lane, three times round; then one message is left in it while the others have their turns.
 fn rounds<C: Carrier>(c: &mut C) -> Result<(), Fail> {
     let n = c.servers().min(6);
     for from in 0..n {
@@ -60,8 +65,21 @@ fn rounds<C: Carrier>(c: &mut C) -> Result<(), Fail> {
                 for turn in 0..3u32 {
                     round(c, from, to, 1 + turn * 100)?;
                 }
-                check_eq(refused(c.post(from, to, numbered(7)?)), 0)?;
-                check_eq(number_of(c.take(from, to)), 7)?;
+                check_eq(refused(c.post(from, to, numbered(mark(from, to))?)), 0)?;
+            }
+        }
+    }
+    left_over(c)
+}
+
+// Each lane still holds its own message, and no other.
+fn left_over<C: Carrier>(c: &mut C) -> Result<(), Fail> {
+    let n = c.servers().min(6);
+    for from in 0..n {
+        for to in 0..n {
+            if from != to {
+                check_eq(number_of(c.take(from, to)), mark(from, to))?;
+                check_eq(refused(c.first(from, to)), 13)?;
             }
         }
     }

@@ -10,99 +10,16 @@ use terms::limits::MAX_RECORD_BYTES;
 use wire::read::read_message;
 use wire::write::write_message;
 
-// The record of a tag notice of object 0 with the zero tag, and zeros.
-const BLANK: [u8; MAX_RECORD_BYTES] = [
-    128,
-    0,
-    0,
-    16,
-    0,
-    0,
-    0,
-    2,
-    0,
-    0,
-    0,
-    0,
-    0,
-    0,
-    0,
-    0,
-    0,
-    0,
-    0,
-    0,
-    0,
-    0,
-    0,
-    0,
-    0,
-    0,
-    0,
-    0,
-    0,
-    0,
-    0,
-    0,
-    0,
-    0,
-    0,
-    0,
-    0,
-    0,
-    0,
-    0,
-    0,
-    0,
-    0,
-    0,
-    0,
-    0,
-    0,
-    0,
-    0,
-    0,
-    0,
-    0,
-    0,
-    0,
-    0,
-    0,
-    0,
-    0,
-    0,
-    0,
-    0,
-    0,
-    0,
-    0,
-    0,
-    0,
-    0,
-    0,
-    0,
-    0,
-    0,
-    0,
-    0,
-    0,
-    0,
-    0,
-    0,
-    0,
-    0,
-    0,
-    0,
-    0,
-    0,
-    0,
-];
-
 pub impl Place for Parcel as ParcelPlace {
     ghost held = { λ s. message-in (s .bytes) };
 
     fn blank() -> Parcel {
-        Parcel { bytes: BLANK }
+        // the mark, the kind, and zeros: object 0 and the zero tag
+        let mut bytes = [0; MAX_RECORD_BYTES];
+        bytes[0] = 128;
+        bytes[3] = 16;
+        bytes[7] = 2;
+        Parcel { bytes }
     }
 
     fn put(&mut self, m: &Message) -> bool {
