@@ -18,7 +18,7 @@ use Rattle.terms.specs.declared.refusal.Refusal.the-variants.{OutOfRange}
 use Rattle.terms.specs.Limits.{max-record-bytes}
 use Rattle.message.specs.Meanings.{Meaning}
 use Rattle.message.specs.Ranges.{in-range}
-use Rattle.wire.specs.Placed.{Put, write-refusal, room-refusal}
+use Rattle.wire.specs.Placed.{Placed, write-refusal, room-refusal}
 use Rattle.wire.specs.Reading.{reading}
 use Rattle.wire.specs.Writing.{encode}
 use Rattle.wire.proofs.Whole.{reading-there, short}
@@ -38,7 +38,7 @@ module _ (m : Meaning) (xs ys : List ℕ) (whole : length xs ≡ max-record-byte
     pub decided : isOk r ≡ in-range m
     pub holds : message-in ys ≡ cond (in-range m) m (message-in xs)
 
-  pub put-after : (r : Result ℕ Refusal) → is-record xs ≡ true → Put (write-refusal m (length xs)) (encode m) xs ys r → After r
+  pub put-after : (r : Result ℕ Refusal) → is-record xs ≡ true → Placed (write-refusal m (length xs)) (encode m) xs ys r → After r
   put-after (Ok n) before told =
       ⊎-elim
       (λ good.

@@ -46,7 +46,8 @@ fn each_in_range<T: Ranged>(items: &[T]) -> bool
     true
 }
 
-fn is_between(low: u32, high: u32, n: u32) -> bool
+// Whether a number is from `low` to `high`.
+pub fn is_between(low: u32, high: u32, n: u32) -> bool
     ensures decided { λ r. ⌜ r ≡ between low high n ⌝ }
 {
     low <= n && n <= high

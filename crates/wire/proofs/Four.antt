@@ -8,8 +8,9 @@ use lib.ListN.{length, getD, take, drop}
 use Rattle.std.proofs.shelf.Lists.{take-rest}
 use Rattle.std.proofs.shelf.Tests.{le-ltb, lt-ltb, cond-true, cond-false}
 use Rattle.std.specs.declared.result.Result.the-variants.{Ok, Err}
+use Rattle.wire.specs.declared.faults.FieldFault.the-variants.{TooShort}
 use Rattle.wire.specs.declared.faults.MarkFault.the-variants as marks
-use Rattle.wire.specs.Reading.{mark, marked-off, number}
+use Rattle.wire.specs.Reading.{mark, marked-off, number, start}
 use Rattle.wire.specs.Words.{big}
 
 -- what a slice pattern leaves
@@ -22,6 +23,13 @@ split (a ∷ []) h = absurd (omega arith)
 split (a ∷ b ∷ []) h = absurd (omega arith)
 split (a ∷ b ∷ c ∷ []) h = absurd (omega arith)
 split (a ∷ b ∷ c ∷ d ∷ xs) h = ap (λ l. a ∷ b ∷ c ∷ d ∷ l) (sym (take-rest (a ∷ b ∷ c ∷ d ∷ xs) 4))
+
+pub number-short : (e : ℕ) (xs : List ℕ) (at : ℕ) → length xs < 4 → at ≡ start e xs → number e xs ≡ Err (TooShort at)
+number-short e [] at h is = ap (λ n. Err (TooShort n)) (sym is)
+number-short e (a ∷ []) at h is = ap (λ n. Err (TooShort n)) (sym is)
+number-short e (a ∷ b ∷ []) at h is = ap (λ n. Err (TooShort n)) (sym is)
+number-short e (a ∷ b ∷ c ∷ []) at h is = ap (λ n. Err (TooShort n)) (sym is)
+number-short e (a ∷ b ∷ c ∷ d ∷ xs) at h is = absurd (omega arith)
 
 module _ (xs : List ℕ) (n : ℕ) (long : 4 ≤ length xs) where
   pub number-ok : (e : ℕ) → n ≡ big (getD xs 0 0) (getD xs 1 0) (getD xs 2 0) (getD xs 3 0) → number e xs ≡ Ok (n, behind xs)

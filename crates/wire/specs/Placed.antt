@@ -23,6 +23,6 @@ abbrev pub write-refusal : Meaning → ℕ → Option Refusal
 write-refusal m size = cond (in-range m) (room-refusal (encode m) size) (Some refusal.OutOfRange)
 
 -- bytes were to be put at the start of a place, which was xs and is ys; it is refused so, or not
-abbrev pub Put : Option Refusal → List ℕ → List ℕ → List ℕ → Result ℕ Refusal → Type 0
-Put refused bytes xs ys (Ok n) = (refused ≡ None) × (n ≡ length bytes) × (ys ≡ bytes ++ drop n xs)
-Put refused bytes xs ys (Err e) = (refused ≡ Some e) × (ys ≡ xs)
+abbrev pub Placed : Option Refusal → List ℕ → List ℕ → List ℕ → Result ℕ Refusal → Type 0
+Placed refused bytes xs ys (Ok n) = (refused ≡ None) × (n ≡ length bytes) × (ys ≡ bytes ++ drop n xs)
+Placed refused bytes xs ys (Err e) = (refused ≡ Some e) × (ys ≡ xs)

@@ -9,6 +9,7 @@ use crate::cursor::Cursor;
 use crate::faults::*;
 use message::kinds::*;
 use message::ranges::clock_is_in_range;
+use message::ranges::is_between;
 use message::ranges::tag_is_in_range;
 use message::ranges::tags_are_in_range;
 use message::tag::Tag;
@@ -113,7 +114,7 @@ fn number_in(c: &mut Cursor, low: u32, high: u32) -> Result<u32, MessageFault>
 {
     let at = c.at();
     let n = c.number()?;
-    if n < low || n > high {
+    if !is_between(low, high, n) {
         return Err(MessageFault::OutOfRange { at });
     }
     Ok(n)

@@ -5,7 +5,7 @@ ghost use lib.ListN.{length};
 ghost use Rattle.terms.specs.Limits.{max-body-bytes};
 ghost use Rattle.message.specs.Meanings.{meaning};
 ghost use Rattle.wire.specs.Bodies.{body-so-far};
-ghost use Rattle.wire.specs.Placed.{Put, room-refusal, write-refusal};
+ghost use Rattle.wire.specs.Placed.{Placed, room-refusal, write-refusal};
 ghost use Rattle.wire.specs.Writing.{body-bytes, marked, encode};
 use crate::body::Body;
 use crate::body::puts::NumberPut;
@@ -19,7 +19,7 @@ const LAST_FRAGMENT: u32 = 0x8000_0000;
 
 // Puts the record of the message at the start of the place, and answers its length.
 pub fn write_message(m: &Message, place: &mut [u8]) -> Result<usize, Refusal>
-    ensures written_or_unchanged { λ r. ⌜ Put (write-refusal (meaning (now (m .entry))) (length (now (place .entry)))) (encode (meaning (now (m .entry)))) (now (place .entry)) (now (place .exit)) r ⌝ }
+    ensures written_or_unchanged { λ r. ⌜ Placed (write-refusal (meaning (now (m .entry))) (length (now (place .entry)))) (encode (meaning (now (m .entry)))) (now (place .entry)) (now (place .exit)) r ⌝ }
 {
     if !m.is_in_range() {
         return Err(Refusal::OutOfRange);
@@ -30,7 +30,7 @@ pub fn write_message(m: &Message, place: &mut [u8]) -> Result<usize, Refusal>
 
 fn put_record(body: &[u8], place: &mut [u8]) -> Result<usize, Refusal>
     requires { ⌜ length (now body) ≤ max-body-bytes ⌝ }
-    ensures written_or_unchanged { λ r. ⌜ Put (room-refusal (marked (now (body .entry))) (length (now (place .entry)))) (marked (now (body .entry))) (now (place .entry)) (now (place .exit)) r ⌝ }
+    ensures written_or_unchanged { λ r. ⌜ Placed (room-refusal (marked (now (body .entry))) (length (now (place .entry)))) (marked (now (body .entry))) (now (place .entry)) (now (place .exit)) r ⌝ }
 {
     let n = MARK_BYTES + body.len();
     if place.len() < n {
