@@ -34,6 +34,9 @@ pub const MAX_WAITING: usize = 32;
 
 pub const MAX_CLIENT_READS: usize = 8;
 
+// Behind the clients' reads is a place for the internal read of each object.
+pub const MAX_READS: usize = MAX_CLIENT_READS + MAX_OBJECTS;
+
 // There is a lane from each server to each other.
 pub const MAX_LANES: usize = MAX_SERVERS * (MAX_SERVERS - 1);
 
