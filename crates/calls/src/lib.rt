@@ -1,4 +1,6 @@
 // The calls on a group beside any carrier. Each takes the step of the rules, finding what it may.
+#![tactic(auto)]
+
 pub mod apply;
 pub mod deliver;
 mod own_write;

@@ -1,4 +1,6 @@
 // Tests of the crates below, on examples and at the edges of every bound.
+#![tactic(auto)]
+
 #[cfg(test)]
 mod codes;
 #[cfg(test)]

@@ -1,4 +1,6 @@
 // Worked figures, as one result over the very definitions that the contracts of the code use.
+#![tactic(auto)]
+
 ghost use Rattle.figures.specs.Figures.{Figures};
 
 // That the figures hold is what this function ensures.

@@ -1,4 +1,6 @@
 // Fund records shared by six offices: what each office keeps, and what is left when some are out of reach.
+#![tactic(auto)]
+
 mod lines;
 mod offices;
 mod report;

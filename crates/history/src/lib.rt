@@ -1,2 +1,4 @@
 // The history of one server.
+#![tactic(auto)]
+
 pub mod history;

@@ -1,5 +1,7 @@
 // How fast messages are written, read and carried, on a fixed workload. It prints counts; with the argument `times`, also
 // the time of one operation.
+#![tactic(auto)]
+
 mod carrying;
 mod notices;
 

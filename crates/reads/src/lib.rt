@@ -1,3 +1,5 @@
 // The reads of one server, and numbers of servers, objects and reads that are known to be in bounds.
+#![tactic(auto)]
+
 pub mod numbers;
 pub mod reads;

@@ -1,4 +1,6 @@
 // What a server does with a message: it keeps a notice, replies to a question, and makes a read of a reply.
+#![tactic(auto)]
+
 pub mod delivering;
 pub mod fitting;
 pub mod mending;

@@ -1,4 +1,6 @@
 // The rules of the group as definitions, and the law over all runs. There is no code but the functions that ask for the theorems.
+#![tactic(auto)]
+
 ghost use Rattle.rules.specs.Figures.{SmallRun};
 ghost use Rattle.rules.specs.Law.{RunLaw};
 ghost use Rattle.rules.specs.Places.{PlacesRight, SweptAtOnce};

@@ -1,4 +1,6 @@
 // What each call makes of one server: its answer, the server after it, and what it tells other servers.
+#![tactic(auto)]
+
 pub mod asking;
 pub mod encoding;
 pub mod reading;

@@ -1,2 +1,4 @@
 // The writes of other servers that wait at one server.
+#![tactic(auto)]
+
 pub mod waiting;

@@ -1,4 +1,6 @@
 // Tests of messages, of their bytes and of carriers: every fault with its place, every bound from both sides.
+#![tactic(auto)]
+
 #[cfg(test)]
 mod lanes;
 #[cfg(test)]

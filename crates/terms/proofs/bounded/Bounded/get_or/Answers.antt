@@ -4,8 +4,8 @@ use Rattle.terms.proofs.bounded.Bounded.get_or.Goals as goal
 
 pub returns-in-None : goal.returns-in-None
 returns-in-None g c =
-    let xs = c.as-slice.result.now in
+    let xs = c.as_slice.result.now in
     record {
       found = sym (get_or_past xs c.args.i c.args.other c.in-None.ensures.lookup.3)
-          ∙ ap (λ l. get_or l c.args.i c.args.other) c.as-slice.ensures.shown;
+          ∙ ap (λ l. get_or l c.args.i c.args.other) c.as_slice.ensures.shown;
     }

@@ -26,7 +26,7 @@ loop-s-preserved c =
     let i = c.loop-s.s-index in
     let m = c.loop-s.members in
     let s : ℕ = get_or xs i 0 in
-    let low : s < 6 = c.if-s-ge-MAX-SERVERS.false in
+    let low : s < 6 = c.if-s-ge-MAX_SERVERS.false in
     let inside : s < length m = omega (arith, c.loop-s.invariant.0) in (
       length-set m s true ∙ c.loop-s.invariant.0,
       each_next (λ v. ltb v 6) xs i 0 c.loop-s-test.true (lt-ltb s 6 low) c.loop-s.invariant.1,
