@@ -11,13 +11,13 @@ use Rattle.terms.proofs.servers.ServerSet.of.Goals as goal
 pub loop-s-init : goal.loop-s-init
 loop-s-init c = (refl, refl, nobody 6)
 
-pub returns-then-s-ge-MAX-SERVERS : goal.returns-then-s-ge-MAX-SERVERS
-returns-then-s-ge-MAX-SERVERS c =
+pub returns-then-s-ge-MAX_SERVERS : goal.returns-then-s-ge-MAX_SERVERS
+returns-then-s-ge-MAX_SERVERS c =
     let xs = c.args.servers.now in
     let i = c.loop-s.s-index in
     record {
       listed_or_refused = ap (λ (b : Bool). unless b NoSuchServer None)
-          (sym (each_stop (λ s. ltb s 6) xs i 0 c.loop-s-test.true (le-ltb (get_or xs i 0) 6 c.if-s-ge-MAX-SERVERS.true) c.loop-s.invariant.1));
+          (sym (each_stop (λ s. ltb s 6) xs i 0 c.loop-s-test.true (le-ltb (get_or xs i 0) 6 c.if-s-ge-MAX_SERVERS.true) c.loop-s.invariant.1));
     }
 
 pub loop-s-preserved : goal.loop-s-preserved
