@@ -37,7 +37,7 @@ fn ends_of<F: Field + Copy, C: Carrier>(
     from: usize,
     to: usize,
 ) -> Result<Ends, Refusal>
-    ensures answer { Answered (beside (nat_le group.now.code.servers (n carrier.now)) (lane_refusal (layout arithmetic group.now (p carrier.now)) from to)) (λ e. (e.from.number ≡ from) × (e.to.number ≡ to)) result }
+    ensures answer { Answered (beside (nat_le group.now.code.servers (n carrier.now)) (lane_refusal (layout F.arithmetic group.now (p carrier.now)) from to)) (λ e. (e.from.number ≡ from) × (e.to.number ≡ to)) result }
     ensures from_within { OnOk result (from < group.now.code.servers) }
     ensures to_within { OnOk result (to < group.now.code.servers) }
     ensures apart { OnOk result (from ≢ to) }
@@ -81,7 +81,7 @@ pub fn deliver<F: Field + Copy, C: Carrier>(
     from: usize,
     to: usize,
 ) -> Result<Delivered, Refusal>
-    ensures step { Took (layout arithmetic group.old (p carrier.old)) (nat_le group.old.code.servers (n carrier.old)) (state group.old (lanes carrier.old)) (Deliver from to) (deliver_told result) (state group.new (lanes carrier.new)) }
+    ensures step { Took (layout F.arithmetic group.old (p carrier.old)) (nat_le group.old.code.servers (n carrier.old)) (state group.old (lanes carrier.old)) (Deliver from to) (deliver_told result) (state group.new (lanes carrier.new)) }
     ensures same_code { group.new.code ≡ group.old.code }
     ensures same_servers { n carrier.new ≡ n carrier.old }
     ensures same_places { p carrier.new ≡ p carrier.old }

@@ -33,7 +33,7 @@ pub(crate) fn own_write<F: Field + Copy>(
     value: Value,
     lanes_free: bool,
 ) -> Result<Written, Refusal>
-    ensures step { (places : ℕ) → write_said result (server p.new) ≡ write_local (laid (code_of_lem.meaning arithmetic code.now) places) (server p.old) aim.server.number aim.object.number (items value.cells) lanes_free }
+    ensures step { (places : ℕ) → write_said result (server p.new) ≡ write_local (laid (code_of_lem.meaning F.arithmetic code.now) places) (server p.old) aim.server.number aim.object.number (items value.cells) lanes_free }
     ensures sendable { IfOk result (λ w. in_range (meaning w.notice) ≡ true) }
 {
     if let Some(refusal) = p.refuse_write(aim.server) {

@@ -24,7 +24,7 @@ pub(crate) fn reach<F: Field + Copy, C: Carrier>(
     carrier: &C,
     server: usize,
 ) -> Result<ServerNumber, Refusal>
-    ensures answer { Answered (beside (nat_le group.now.code.servers (n carrier.now)) (server_why (layout arithmetic group.now (p carrier.now)) server)) (λ k. k.number ≡ server) result }
+    ensures answer { Answered (beside (nat_le group.now.code.servers (n carrier.now)) (server_why (layout F.arithmetic group.now (p carrier.now)) server)) (λ k. k.number ≡ server) result }
     ensures within { OnOk result (server < group.now.code.servers) }
     ensures carried { OnOk result (group.now.code.servers ≤ n carrier.now) }
 {
@@ -47,7 +47,7 @@ pub(crate) fn take_aim<F: Field + Copy, C: Carrier>(
     server: usize,
     object: usize,
 ) -> Result<Aim, Refusal>
-    ensures answer { Answered (beside (nat_le group.now.code.servers (n carrier.now)) (object_why (layout arithmetic group.now (p carrier.now)) server object)) (λ a. (a.server.number ≡ server) × (a.object.number ≡ object)) result }
+    ensures answer { Answered (beside (nat_le group.now.code.servers (n carrier.now)) (object_why (layout F.arithmetic group.now (p carrier.now)) server object)) (λ a. (a.server.number ≡ server) × (a.object.number ≡ object)) result }
     ensures within { OnOk result (server < group.now.code.servers) }
     ensures carried { OnOk result (group.now.code.servers ≤ n carrier.now) }
 {

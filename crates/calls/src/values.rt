@@ -21,14 +21,14 @@ fn cell_at(cells: &[u8], c: usize) -> u8
 
 // Whether the cell c is an element.
 fn is_element<F: Field>(cells: &[u8], c: usize) -> bool
-    ensures { result ≡ nat_lt (slice_index cells.now c) arithmetic.size }
+    ensures { result ≡ nat_lt (slice_index cells.now c) F.arithmetic.size }
 {
     (cell_at(cells, c) as u16) < F::size()
 }
 
 // Whether each of the first n cells is an element.
 fn all_elements<F: Field>(cells: &[u8], n: usize) -> bool
-    ensures { result ≡ every n (λ c. ltb (slice_index cells.now c) arithmetic.size) }
+    ensures { result ≡ every n (λ c. ltb (slice_index cells.now c) F.arithmetic.size) }
 {
     let mut all = true;
     for c in 0..n {
@@ -39,7 +39,7 @@ fn all_elements<F: Field>(cells: &[u8], n: usize) -> bool
 
 // The value of these cells, if they are one element for each cell of the group.
 pub(crate) fn value_of<F: Field + Copy>(group: &Group<F>, cells: &[u8]) -> Result<Value, Refusal>
-    ensures { (places : ℕ) → Answered (value_why (layout arithmetic group.now places) cells.now) (λ v. items v.cells ≡ cells.now) result }
+    ensures { (places : ℕ) → Answered (value_why (layout F.arithmetic group.now places) cells.now) (λ v. items v.cells ≡ cells.now) result }
 {
     if cells.len() != group.code.cells() {
         return Err(Refusal::WrongLength);

@@ -24,7 +24,7 @@ pub fn write<F: Field + Copy, C: Carrier>(
     object: usize,
     value: &[u8],
 ) -> Result<Tag, Refusal>
-    ensures step { Took (layout arithmetic group.old (p carrier.old)) (nat_le group.old.code.servers (n carrier.old)) (state group.old (lanes carrier.old)) (Write server object value.now) (write_told result) (state group.new (lanes carrier.new)) }
+    ensures step { Took (layout F.arithmetic group.old (p carrier.old)) (nat_le group.old.code.servers (n carrier.old)) (state group.old (lanes carrier.old)) (Write server object value.now) (write_told result) (state group.new (lanes carrier.new)) }
     ensures same_code { group.new.code ≡ group.old.code }
     ensures same_servers { n carrier.new ≡ n carrier.old }
     ensures same_places { p carrier.new ≡ p carrier.old }

@@ -13,7 +13,7 @@ pub type Wide = [WideRow; 6];
 // The coefficients of a row, 0 for a number that is no element, and 1 at the row's own place among the factors.
 fn widen_row<F: Field>(row: [u8; 6], i: usize) -> WideRow
     requires { i < 6 }
-    ensures { WidenedRow arithmetic (λ j. slice_index row j) i (λ j. slice_index result j) }
+    ensures { WidenedRow F.arithmetic (λ j. slice_index row j) i (λ j. slice_index result j) }
 {
     let mut wide = [0u8; 12];
     for j in 0..6usize {
@@ -24,7 +24,7 @@ fn widen_row<F: Field>(row: [u8; 6], i: usize) -> WideRow
 }
 
 pub fn widen<F: Field>(rows: Matrix) -> Wide
-    ensures { Widened arithmetic rows result }
+    ensures { Widened F.arithmetic rows result }
 {
     let mut wide = [[0u8; 12]; 6];
     for i in 0..6usize {
@@ -35,7 +35,7 @@ pub fn widen<F: Field>(rows: Matrix) -> Wide
 
 // f times the row b, added to the row a.
 fn add_multiple<F: Field>(a: WideRow, f: u8, b: WideRow) -> WideRow
-    ensures { Added arithmetic f (λ j. slice_index a j) (λ j. slice_index b j) (λ j. slice_index result j) }
+    ensures { Added F.arithmetic f (λ j. slice_index a j) (λ j. slice_index b j) (λ j. slice_index result j) }
 {
     let mut r = a;
     for j in 0..12usize {
@@ -47,7 +47,7 @@ fn add_multiple<F: Field>(a: WideRow, f: u8, b: WideRow) -> WideRow
 // Adds a multiple of the row p to each other row, so that these are 0 at c.
 fn clear<F: Field>(rows: Wide, p: usize, c: usize) -> Wide
     requires { (p < 6) × (c < 6) }
-    ensures { Cleared arithmetic (λ i. arithmetic.minus (arithmetic.times (entry rows i c) (inverse (entry rows p c)))) rows result p }
+    ensures { Cleared F.arithmetic (λ i. F.arithmetic.minus (F.arithmetic.times (entry rows i c) (inverse (entry rows p c)))) rows result p }
 {
     let by = rows[p];
     let scale = F::inv(by[c]);
@@ -84,8 +84,8 @@ pub struct Reduced {
 
 // Leads every column but k by a row of its own, where one can, and clears it from all other rows.
 pub fn reduce<F: Field>(start: Wide, k: usize) -> Reduced
-    requires { Elements arithmetic.size start }
-    ensures { ReducedTo arithmetic k start result.rows result.lead }
+    requires { Elements F.arithmetic.size start }
+    ensures { ReducedTo F.arithmetic k start result.rows result.lead }
 {
     let mut rows = start;
     let mut lead = [6usize; 6];

@@ -10,7 +10,7 @@ pub type Matrix = [[u8; 6]; 6];
 
 // The factors by which the rows add up to the unknown k, if they determine it.
 pub fn solve<F: Field>(rows: Matrix, k: usize) -> Option<[u8; 6]>
-    ensures exact { MatchOption result (Determines arithmetic rows k → ⊥) (λ factors. Solves arithmetic rows k factors) }
+    ensures exact { MatchOption result (Determines F.arithmetic rows k → ⊥) (λ factors. Solves F.arithmetic rows k factors) }
 {
     if k < 6 {
         eliminated::<F>(rows, k)
@@ -21,7 +21,7 @@ pub fn solve<F: Field>(rows: Matrix, k: usize) -> Option<[u8; 6]>
 
 fn eliminated<F: Field>(rows: Matrix, k: usize) -> Option<[u8; 6]>
     requires { k < 6 }
-    ensures { MatchOption result (Determines arithmetic rows k → ⊥) (λ factors. Solves arithmetic rows k factors) }
+    ensures { MatchOption result (Determines F.arithmetic rows k → ⊥) (λ factors. Solves F.arithmetic rows k factors) }
 {
     let reduced = reduce::<F>(widen::<F>(rows), k);
     let p = find_pivot(&reduced.rows, &reduced.lead, k);
@@ -34,7 +34,7 @@ fn eliminated<F: Field>(rows: Matrix, k: usize) -> Option<[u8; 6]>
 
 // The factors of a wide row, each times the scale.
 fn scaled<F: Field>(row: [u8; 12], scale: u8) -> [u8; 6]
-    ensures { (s : ℕ) → s < 6 → slice_index result s ≡ arithmetic.times scale (slice_index row (6 + s)) }
+    ensures { (s : ℕ) → s < 6 → slice_index result s ≡ F.arithmetic.times scale (slice_index row (6 + s)) }
 {
     let mut factors = [0u8; 6];
     for s in 0..6usize {

@@ -84,7 +84,7 @@ fn answer<F: Field + Copy>(
 ) -> Result<DeliverTurn, Refusal>
     requires server_within { me.number < code.now.servers }
     requires in_range { in_range (question read object (items asked.now)) ≡ true }
-    ensures step { (places a : ℕ) (f : Found) → deliver_said result (server p.now) ≡ got_local (laid (meaning arithmetic code.now) places) (server p.now) a me.number back_free (question read object (items asked.now)) f }
+    ensures step { (places a : ℕ) (f : Found) → deliver_said result (server p.now) ≡ got_local (laid (meaning F.arithmetic code.now) places) (server p.now) a me.number back_free (question read object (items asked.now)) f }
     ensures sendable { IfOk result (λ t. Sendable t.reply) }
 {
     if !back_free {
@@ -104,8 +104,8 @@ fn receive<F: Field + Copy>(
 ) -> Result<DeliverTurn, Refusal>
     requires me_within { me.number < code.now.servers }
     requires from_within { from.number < code.now.servers }
-    requires fit { fits (laid (meaning arithmetic code.now) 0) (meaning-of m) ≡ true }
-    ensures taken { MessageTaken (meaning arithmetic code.now) (server p.old) from.number me.number back_free (meaning-of m) (deliver_said result (server p.new)) }
+    requires fit { fits (laid (meaning F.arithmetic code.now) 0) (meaning-of m) ≡ true }
+    ensures taken { MessageTaken (meaning F.arithmetic code.now) (server p.old) from.number me.number back_free (meaning-of m) (deliver_said result (server p.new)) }
     ensures sendable { IfOk result (λ t. Sendable t.reply) }
 {
     match m {
@@ -143,7 +143,7 @@ pub fn deliver<F: Field + Copy>(
     m: Message,
     back_free: bool,
 ) -> Result<DeliverTurn, Refusal>
-    ensures delivered { DeliveredBy (meaning arithmetic code.now) (server p.old) from.number me.number back_free (meaning-of m) (deliver_said result (server p.new)) }
+    ensures delivered { DeliveredBy (meaning F.arithmetic code.now) (server p.old) from.number me.number back_free (meaning-of m) (deliver_said result (server p.new)) }
     ensures sendable { IfOk result (λ t. Sendable t.reply) }
 {
     if from.number >= code.servers() || me.number >= code.servers() {

@@ -22,14 +22,14 @@ fn cell_at(value: &[u8], c: usize) -> u8
 }
 
 fn is_element<F: Field>(value: &[u8], c: usize) -> bool
-    ensures { result ≡ nat_lt (slice_index value.now c) arithmetic.size }
+    ensures { result ≡ nat_lt (slice_index value.now c) F.arithmetic.size }
 {
     (cell_at(value, c) as u16) < F::size()
 }
 
 // Whether each of the first cells is an element.
 pub fn all_elements<F: Field>(value: &[u8], cells: usize) -> bool
-    ensures decided { result ≡ every cells (λ c. ltb (slice_index value.now c) arithmetic.size) }
+    ensures decided { result ≡ every cells (λ c. ltb (slice_index value.now c) F.arithmetic.size) }
 {
     let mut all = true;
     for c in 0..cells {
@@ -40,21 +40,21 @@ pub fn all_elements<F: Field>(value: &[u8], cells: usize) -> bool
 
 // Whether this is a value: as many elements as there are cells.
 fn fits_value<F: Field + Copy>(code: &Code<F>, value: &Cells) -> bool
-    ensures { (places : ℕ) → result ≡ fits_value (laid (meaning arithmetic code.now) places) (items value.now) }
+    ensures { (places : ℕ) → result ≡ fits_value (laid (meaning F.arithmetic code.now) places) (items value.now) }
 {
     value.len() == code.cells() && all_elements::<F>(value.as_slice(), code.cells())
 }
 
 // Whether the tag's server is one of the group's.
 fn fits_tag<F: Field + Copy>(code: &Code<F>, tag: Tag) -> bool
-    ensures { (places : ℕ) → result ≡ fits_tag (laid (meaning arithmetic code.now) places) tag }
+    ensures { (places : ℕ) → result ≡ fits_tag (laid (meaning F.arithmetic code.now) places) tag }
 {
     (tag.server as usize) < code.servers()
 }
 
 // Whether each tag's server is one of the group's.
 fn fits_each<F: Field + Copy>(code: &Code<F>, tags: &[Tag]) -> bool
-    ensures { (places : ℕ) → result ≡ each (fits_tag (laid (meaning arithmetic code.now) places)) tags.now }
+    ensures { (places : ℕ) → result ≡ each (fits_tag (laid (meaning F.arithmetic code.now) places)) tags.now }
 {
     for tag in tags {
         if !fits_tag(code, *tag) {
@@ -66,45 +66,45 @@ fn fits_each<F: Field + Copy>(code: &Code<F>, tags: &[Tag]) -> bool
 
 // Whether there is a tag for each object.
 fn fits_tags<F: Field + Copy>(code: &Code<F>, tags: &Tags) -> bool
-    ensures { (places : ℕ) → result ≡ fits_tags (laid (meaning arithmetic code.now) places) (items tags.now) }
+    ensures { (places : ℕ) → result ≡ fits_tags (laid (meaning F.arithmetic code.now) places) (items tags.now) }
 {
     tags.len() == code.objects() && fits_each(code, tags.as_slice())
 }
 
 // Whether the number is that of an object.
 fn fits_object<F: Field + Copy>(code: &Code<F>, object: u32) -> bool
-    ensures { result ≡ nat_lt object (meaning arithmetic code.now).objects }
+    ensures { result ≡ nat_lt object (meaning F.arithmetic code.now).objects }
 {
     (object as usize) < code.objects()
 }
 
 fn fits_write<F: Field + Copy>(code: &Code<F>, object: u32, value: &Cells, clock: &Clock) -> bool
-    ensures { (places : ℕ) → result ≡ (nat_lt object code.now.objects && (fits_value (laid (meaning arithmetic code.now) places) (items value.now) && length (items clock.now) == code.now.servers)) }
+    ensures { (places : ℕ) → result ≡ (nat_lt object code.now.objects && (fits_value (laid (meaning F.arithmetic code.now) places) (items value.now) && length (items clock.now) == code.now.servers)) }
 {
     fits_object(code, object) && (fits_value(code, value) && clock.len() == code.servers())
 }
 
 fn fits_notice<F: Field + Copy>(code: &Code<F>, object: u32, tag: Tag) -> bool
-    ensures { (places : ℕ) → result ≡ (nat_lt object code.now.objects && fits_tag (laid (meaning arithmetic code.now) places) tag) }
+    ensures { (places : ℕ) → result ≡ (nat_lt object code.now.objects && fits_tag (laid (meaning F.arithmetic code.now) places) tag) }
 {
     fits_object(code, object) && fits_tag(code, tag)
 }
 
 fn fits_question<F: Field + Copy>(code: &Code<F>, object: u32, tags: &Tags) -> bool
-    ensures { (places : ℕ) → result ≡ (nat_lt object code.now.objects && fits_tags (laid (meaning arithmetic code.now) places) (items tags.now)) }
+    ensures { (places : ℕ) → result ≡ (nat_lt object code.now.objects && fits_tags (laid (meaning F.arithmetic code.now) places) (items tags.now)) }
 {
     fits_object(code, object) && fits_tags(code, tags)
 }
 
 fn fits_coded<F: Field + Copy>(code: &Code<F>, symbol: &Cells, stated: &Tags) -> bool
-    ensures { (places : ℕ) → result ≡ (fits_value (laid (meaning arithmetic code.now) places) (items symbol.now) && fits_tags (laid (meaning arithmetic code.now) places) (items stated.now)) }
+    ensures { (places : ℕ) → result ≡ (fits_value (laid (meaning F.arithmetic code.now) places) (items symbol.now) && fits_tags (laid (meaning F.arithmetic code.now) places) (items stated.now)) }
 {
     fits_value(code, symbol) && fits_tags(code, stated)
 }
 
 // Whether the message fits the group's own sizes.
 fn fits_group<F: Field + Copy>(code: &Code<F>, m: &Message) -> bool
-    ensures { (places : ℕ) → result ≡ fits_group (laid (meaning arithmetic code.now) places) (meaning-of m.now) }
+    ensures { (places : ℕ) → result ≡ fits_group (laid (meaning F.arithmetic code.now) places) (meaning-of m.now) }
 {
     match m {
         Message::WriteNotice {
@@ -130,7 +130,7 @@ fn fits_group<F: Field + Copy>(code: &Code<F>, m: &Message) -> bool
 
 // Whether the message is within the ranges of messages and fits the group's own sizes.
 pub fn fits<F: Field + Copy>(code: &Code<F>, m: &Message) -> bool
-    ensures decided { (places : ℕ) → result ≡ fits (laid (meaning arithmetic code.now) places) (meaning-of m.now) }
+    ensures decided { (places : ℕ) → result ≡ fits (laid (meaning F.arithmetic code.now) places) (meaning-of m.now) }
 {
     m.is_in_range() && fits_group(code, m)
 }

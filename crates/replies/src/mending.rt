@@ -37,7 +37,7 @@ fn differs<F: Field + Copy>(
 ) -> bool
     requires server_within { from.number < code.now.servers }
     requires object_within { y < code.now.objects }
-    ensures { result ≡ (contains (meaning arithmetic code.now) from.number y && not (same stated ((asking_of asking.now).tags y))) }
+    ensures { result ≡ (contains (meaning F.arithmetic code.now) from.number y && not (same stated ((asking_of asking.now).tags y))) }
 {
     match code.contains(from.number, y) {
         Ok(contained) => contained && !stated.equals(asking.tag_of(y)),
@@ -64,7 +64,7 @@ fn mended_at<F: Field + Copy>(
 ) -> Option<Cells>
     requires server_within { from.number < code.now.servers }
     requires object_within { y < code.now.objects }
-    ensures { (places : ℕ) (ts : List Tag) → stated ≡ slice_index_or ts y zero_tag → option_map items result ≡ mended_at (laid (meaning arithmetic code.now) places) (server p.now) from.number (asking_of asking.now) ts y (items symbol) }
+    ensures { (places : ℕ) (ts : List Tag) → stated ≡ slice_index_or ts y zero_tag → option_map items result ≡ mended_at (laid (meaning F.arithmetic code.now) places) (server p.now) from.number (asking_of asking.now) ts y (items symbol) }
 {
     if !differs(code, from, asking, y, stated) {
         return Some(symbol);
@@ -86,7 +86,7 @@ pub(crate) fn mended<F: Field + Copy>(
     stated: &Tags,
 ) -> Option<Cells>
     requires server_within { from.number < code.now.servers }
-    ensures { (places : ℕ) → option_map items result ≡ mended (laid (meaning arithmetic code.now) places) (server p.now) from.number (asking_of asking.now) (items symbol) (items stated.now) code.now.objects }
+    ensures { (places : ℕ) → option_map items result ≡ mended (laid (meaning F.arithmetic code.now) places) (server p.now) from.number (asking_of asking.now) (items symbol) (items stated.now) code.now.objects }
 {
     let mut symbol = symbol;
     for y in 0..code.objects() {
@@ -147,7 +147,7 @@ fn below(set: ServerSet, n: usize) -> ServerSet
 
 // The value of the read's object, from the symbols in hand, if they recover it.
 pub(crate) fn decoded<F: Field + Copy>(code: &Code<F>, asking: &Asking) -> Option<Cells>
-    ensures { MatchOption result (Recovers (meaning arithmetic code.now) (asking_of asking.now).hand asking.now.object → ⊥) (λ v. Decoded (meaning arithmetic code.now) (asking_of asking.now).hand (asking_of asking.now).symbols asking.now.object (items v)) }
+    ensures { MatchOption result (Recovers (meaning F.arithmetic code.now) (asking_of asking.now).hand asking.now.object → ⊥) (λ v. Decoded (meaning F.arithmetic code.now) (asking_of asking.now).hand (asking_of asking.now).symbols asking.now.object (items v)) }
 {
     if asking.object >= code.objects() {
         return None;

@@ -31,7 +31,7 @@ fn take_symbol<F: Field + Copy>(
     stated: &Tags,
 ) -> Result<Delivered, Refusal>
     requires server_within { from.number < code.now.servers }
-    ensures { SymbolTaken (meaning arithmetic code.now) (server p.old) from.number i.number (asking_of asking) (items symbol) (items stated.now) (reply_said result (server p.new)) }
+    ensures { SymbolTaken (meaning F.arithmetic code.now) (server p.old) from.number i.number (asking_of asking) (items symbol) (items stated.now) (reply_said result (server p.new)) }
 {
     let Some(symbol) = mended(p, code, from, &asking, symbol, stated) else {
         return Ok(Delivered::Unusable);
@@ -54,7 +54,7 @@ pub(crate) fn take_coded<F: Field + Copy>(
     stated: &Tags,
 ) -> Result<Delivered, Refusal>
     requires server_within { from.number < code.now.servers }
-    ensures { CodedTaken (meaning arithmetic code.now) (server p.old) from.number number (items symbol) (items stated.now) (reply_said result (server p.new)) }
+    ensures { CodedTaken (meaning F.arithmetic code.now) (server p.old) from.number number (items symbol) (items stated.now) (reply_said result (server p.new)) }
 {
     let Some(i) = p.open_place(number) else {
         return Ok(Delivered::NotOpen);

@@ -34,7 +34,7 @@ fn exchanges<F: Field + Copy>(
 ) -> bool
     requires server_within { me.number < code.now.servers }
     requires object_within { y < code.now.objects }
-    ensures { (places : ℕ) → result ≡ exchanges (laid (meaning arithmetic code.now) places) me.number (server p.now) y asked }
+    ensures { (places : ℕ) → result ≡ exchanges (laid (meaning F.arithmetic code.now) places) me.number (server p.now) y asked }
 {
     let own = p.own_tag(y);
     match code.contains(me.number, y) {
@@ -53,7 +53,7 @@ fn stated<F: Field + Copy>(
 ) -> Tag
     requires server_within { me.number < code.now.servers }
     requires object_within { y < code.now.objects }
-    ensures { (places : ℕ) → result ≡ stated (laid (meaning arithmetic code.now) places) me.number (server p.now) y asked }
+    ensures { (places : ℕ) → result ≡ stated (laid (meaning F.arithmetic code.now) places) me.number (server p.now) y asked }
 {
     if !exchanges(p, code, me, y, asked) {
         return p.own_tag(y);
@@ -77,7 +77,7 @@ pub(crate) fn turned<F: Field + Copy>(
 ) -> Cells
     requires server_within { s.number < code.now.servers }
     requires object_within { y < code.now.objects }
-    ensures symbol { (places : ℕ) → items result ≡ turned (laid (meaning arithmetic code.now) places) s.number (server p.now) y from to (items symbol) }
+    ensures symbol { (places : ℕ) → items result ≡ turned (laid (meaning F.arithmetic code.now) places) s.number (server p.now) y from to (items symbol) }
     ensures some { 1 ≤ length (items result) }
 {
     let old = p.history().value_under(code, y, from);
@@ -100,7 +100,7 @@ fn restated_at<F: Field + Copy>(
     requires server_within { me.number < code.now.servers }
     requires object_within { y < code.now.objects }
     requires some { 1 ≤ length (items symbol) }
-    ensures symbol { (places : ℕ) → items result ≡ (if exchanges (laid (meaning arithmetic code.now) places) me.number (server p.now) y asked then turned (laid (meaning arithmetic code.now) places) me.number (server p.now) y ((server p.now).own y) (stated (laid (meaning arithmetic code.now) places) me.number (server p.now) y asked) (items symbol) else items symbol) }
+    ensures symbol { (places : ℕ) → items result ≡ (if exchanges (laid (meaning F.arithmetic code.now) places) me.number (server p.now) y asked then turned (laid (meaning F.arithmetic code.now) places) me.number (server p.now) y ((server p.now).own y) (stated (laid (meaning F.arithmetic code.now) places) me.number (server p.now) y asked) (items symbol) else items symbol) }
     ensures some { 1 ≤ length (items result) }
 {
     if !exchanges(p, code, me, y, asked) {
@@ -114,7 +114,7 @@ fn restated_at<F: Field + Copy>(
 // The symbol, where each object has the value that is stated of it.
 fn restated<F: Field + Copy>(p: &Server, code: &Code<F>, me: ServerNumber, asked: &Tags) -> Cells
     requires server_within { me.number < code.now.servers }
-    ensures symbol { (places : ℕ) → items result ≡ restated (laid (meaning arithmetic code.now) places) me.number (server p.now) (items asked.now) code.now.objects }
+    ensures symbol { (places : ℕ) → items result ≡ restated (laid (meaning F.arithmetic code.now) places) me.number (server p.now) (items asked.now) code.now.objects }
     ensures some { 1 ≤ length (items result) }
 {
     let mut symbol = p.symbol();
@@ -127,7 +127,7 @@ fn restated<F: Field + Copy>(p: &Server, code: &Code<F>, me: ServerNumber, asked
 // The tags that it states.
 fn stated_tags<F: Field + Copy>(p: &Server, code: &Code<F>, me: ServerNumber, asked: &Tags) -> Tags
     requires server_within { me.number < code.now.servers }
-    ensures { (places : ℕ) → items result ≡ listed code.now.objects (λ y. stated (laid (meaning arithmetic code.now) places) me.number (server p.now) y (slice_index_or (items asked.now) y zero_tag)) }
+    ensures { (places : ℕ) → items result ≡ listed code.now.objects (λ y. stated (laid (meaning F.arithmetic code.now) places) me.number (server p.now) y (slice_index_or (items asked.now) y zero_tag)) }
 {
     let mut tags = Tags::new(Tag::zero());
     for y in 0..code.objects() {
@@ -148,7 +148,7 @@ pub(crate) fn reply<F: Field + Copy>(
     requires server_within { me.number < code.now.servers }
     requires in_range { in_range (question read object (items asked.now)) ≡ true }
     ensures outcome { delivered_number result.outcome ≡ (if holds (server p.now).history object (slice_index_or (items asked.now) object zero_tag) then 1 else 2) }
-    ensures reply { (places : ℕ) → option_map meaning-of result.reply ≡ Some (reply (laid (meaning arithmetic code.now) places) me.number (server p.now) read object (items asked.now)) }
+    ensures reply { (places : ℕ) → option_map meaning-of result.reply ≡ Some (reply (laid (meaning F.arithmetic code.now) places) me.number (server p.now) read object (items asked.now)) }
     ensures sendable { Sendable result.reply }
 {
     let x = object as usize;

@@ -101,7 +101,7 @@ fn ask<F: Field + Copy>(
     alone: Option<Value>,
     lanes_free: bool,
 ) -> Result<EncodeTurn, Refusal>
-    ensures step { (places : ℕ) → encode_said result (server p.new) ≡ ask_local (laid (meaning arithmetic code.now) places) (server p.old) me.number x.number (option_map (λ v. items v.cells) alone) lanes_free }
+    ensures step { (places : ℕ) → encode_said result (server p.new) ≡ ask_local (laid (meaning F.arithmetic code.now) places) (server p.old) me.number x.number (option_map (λ v. items v.cells) alone) lanes_free }
     ensures sendable { IfOk result (λ t. Sendable t.news) }
 {
     if is_asking(p, x) {
@@ -136,7 +136,7 @@ fn turned<F: Field + Copy>(
 ) -> Cells
     requires server_within { me.number < code.now.servers }
     requires object_within { x.number < code.now.objects }
-    ensures symbol { items result ≡ re_encoded (meaning arithmetic code.now) me.number x.number (server p.now).symbol (value_at code.now.cells (server p.now).history at) (value_under code.now.cells (server p.now).history x.number tag) }
+    ensures symbol { items result ≡ re_encoded (meaning F.arithmetic code.now) me.number x.number (server p.now).symbol (value_at code.now.cells (server p.now).history at) (value_under code.now.cells (server p.now).history x.number tag) }
     ensures some { 1 ≤ length (items result) }
 {
     let symbol = p.symbol();
@@ -159,7 +159,7 @@ fn encode_contained<F: Field + Copy>(
 ) -> Result<EncodeTurn, Refusal>
     requires server_within { me.number < code.now.servers }
     requires object_within { x.number < code.now.objects }
-    ensures step { (places : ℕ) → encode_said result (server p.new) ≡ contained_local (laid (meaning arithmetic code.now) places) (server p.old) me.number x.number (option_map (λ v. items v.cells) alone) lanes_free }
+    ensures step { (places : ℕ) → encode_said result (server p.new) ≡ contained_local (laid (meaning F.arithmetic code.now) places) (server p.old) me.number x.number (option_map (λ v. items v.cells) alone) lanes_free }
     ensures sendable { IfOk result (λ t. Sendable t.news) }
 {
     let own = p.own_tag(x.number);
@@ -186,7 +186,7 @@ fn encode_other<F: Field + Copy>(
     lanes_free: bool,
 ) -> Result<EncodeTurn, Refusal>
     requires object_within { x.number < code.now.objects }
-    ensures step { (places : ℕ) → encode_said result (server p.new) ≡ other_local (laid (meaning arithmetic code.now) places) (server p.old) me.number x.number lanes_free }
+    ensures step { (places : ℕ) → encode_said result (server p.new) ≡ other_local (laid (meaning F.arithmetic code.now) places) (server p.old) me.number x.number lanes_free }
     ensures sendable { IfOk result (λ t. Sendable t.news) }
 {
     let own = p.own_tag(x.number);
@@ -210,7 +210,7 @@ pub fn encode<F: Field + Copy>(
     alone: Option<Value>,
     lanes_free: bool,
 ) -> Result<EncodeTurn, Refusal>
-    ensures step { (places : ℕ) → encode_said result (server p.new) ≡ encode_local (laid (meaning arithmetic code.now) places) (server p.old) me.number x.number (option_map (λ v. items v.cells) alone) lanes_free }
+    ensures step { (places : ℕ) → encode_said result (server p.new) ≡ encode_local (laid (meaning F.arithmetic code.now) places) (server p.old) me.number x.number (option_map (λ v. items v.cells) alone) lanes_free }
     ensures sendable { IfOk result (λ t. Sendable t.news) }
 {
     let contained = match code.contains(me.number, x.number) {

@@ -25,7 +25,7 @@ fn read_now<F: Field + Copy>(
     x: ObjectNumber,
     alone: Option<Value>,
 ) -> Option<Valued>
-    ensures { (places : ℕ) → option_map valued result ≡ at_once (laid (meaning arithmetic code.now) places) (server p.now) x.number (option_map (λ v. items v.cells) alone) }
+    ensures { (places : ℕ) → option_map valued result ≡ at_once (laid (meaning F.arithmetic code.now) places) (server p.now) x.number (option_map (λ v. items v.cells) alone) }
 {
     let own = p.own_tag(x.number);
     let highest = p.history().highest(x.number);
@@ -57,7 +57,7 @@ pub fn read<F: Field + Copy>(
     alone: Option<Value>,
     lanes_free: bool,
 ) -> Result<ReadTurn, Refusal>
-    ensures step { (places : ℕ) → read_said result (server p.new) ≡ read_local (laid (meaning arithmetic code.now) places) (server p.old) me.number x.number (option_map (λ v. items v.cells) alone) lanes_free }
+    ensures step { (places : ℕ) → read_said result (server p.new) ≡ read_local (laid (meaning F.arithmetic code.now) places) (server p.old) me.number x.number (option_map (λ v. items v.cells) alone) lanes_free }
     ensures sendable { IfOk result (λ t. Sendable t.news) }
 {
     if let Some(valued) = read_now(p, code, x, alone) {

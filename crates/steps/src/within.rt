@@ -20,7 +20,7 @@ use server_split::server::Server;
 fn lets_rise<F: Field + Copy>(p: &Server, code: &Code<F>, object: usize, tag: Tag, j: usize) -> bool
     requires server_within { j < code.now.servers }
     requires object_within { object < code.now.objects }
-    ensures { result ≡ (not (contains (meaning arithmetic code.now) j object) || not (lower ((server p.now).told object j) tag)) }
+    ensures { result ≡ (not (contains (meaning F.arithmetic code.now) j object) || not (lower ((server p.now).told object j) tag)) }
 {
     match code.contains(j, object) {
         Ok(contained) => !contained || !p.told_tag(object, j).is_lower_than(tag),
@@ -31,7 +31,7 @@ fn lets_rise<F: Field + Copy>(p: &Server, code: &Code<F>, object: usize, tag: Ta
 // Whether all servers let the own tag of the object rise to this one.
 fn may_rise<F: Field + Copy>(p: &Server, code: &Code<F>, object: usize, tag: Tag) -> bool
     requires object_within { object < code.now.objects }
-    ensures { (places : ℕ) → result ≡ within (laid (meaning arithmetic code.now) places) (server p.now) object tag }
+    ensures { (places : ℕ) → result ≡ within (laid (meaning F.arithmetic code.now) places) (server p.now) object tag }
 {
     let mut all = true;
     for j in 0..code.servers() {
@@ -43,7 +43,7 @@ fn may_rise<F: Field + Copy>(p: &Server, code: &Code<F>, object: usize, tag: Tag
 // Whether the entry is one of the object with a higher tag to which the own tag may rise.
 fn rises<F: Field + Copy>(p: &Server, code: &Code<F>, object: usize, best: Tag, e: &Entry) -> bool
     requires object_within { object < code.now.objects }
-    ensures { (places : ℕ) → result ≡ rises (within (laid (meaning arithmetic code.now) places) (server p.now) object) object best (entry e.now) }
+    ensures { (places : ℕ) → result ≡ rises (within (laid (meaning F.arithmetic code.now) places) (server p.now) object) object best (entry e.now) }
 {
     e.object == object && best.is_lower_than(e.tag) && may_rise(p, code, object, e.tag)
 }
@@ -51,7 +51,7 @@ fn rises<F: Field + Copy>(p: &Server, code: &Code<F>, object: usize, best: Tag, 
 // The highest tag in the history to which the own tag of the object may rise, or the zero tag.
 pub(crate) fn highest_within<F: Field + Copy>(p: &Server, code: &Code<F>, object: usize) -> Tag
     requires object_within { object < code.now.objects }
-    ensures { (places : ℕ) → result ≡ highest (within (laid (meaning arithmetic code.now) places) (server p.now) object) object (server p.now).history }
+    ensures { (places : ℕ) → result ≡ highest (within (laid (meaning F.arithmetic code.now) places) (server p.now) object) object (server p.now).history }
 {
     let mut best = Tag::zero();
     for e in p.history().as_slice() {

@@ -11,7 +11,7 @@ use terms::refusal::Refusal;
 
 impl<F: Field + Copy> Code<F> {
     pub fn coefficient(&self, server: usize, object: usize) -> Result<u8, Refusal>
-        ensures found_or_refused { Answered (place_refusal (meaning arithmetic self.now) server object) (λ v. v ≡ (meaning arithmetic self.now).coefficient server object) result }
+        ensures found_or_refused { Answered (place_refusal (meaning F.arithmetic self.now) server object) (λ v. v ≡ (meaning F.arithmetic self.now).coefficient server object) result }
     {
         if server >= self.servers {
             return Err(Refusal::NoSuchServer);
@@ -24,7 +24,7 @@ impl<F: Field + Copy> Code<F> {
 
     // Whether the server's coefficient of the object is not 0.
     pub fn contains(&self, server: usize, object: usize) -> Result<bool, Refusal>
-        ensures found_or_refused { Answered (place_refusal (meaning arithmetic self.now) server object) (λ b. b ≡ contains (meaning arithmetic self.now) server object) result }
+        ensures found_or_refused { Answered (place_refusal (meaning F.arithmetic self.now) server object) (λ b. b ≡ contains (meaning F.arithmetic self.now) server object) result }
     {
         Ok(self.coefficient(server, object)? != 0)
     }

@@ -22,7 +22,7 @@ impl<F: Field + Copy> Code<F> {
         cells: usize,
         table: &[u8],
     ) -> Result<Code<F>, Refusal>
-        ensures accepted_or_refused { MatchResult result (λ c. (meaning arithmetic c ≡ coding arithmetic servers objects cells table.now) × Accepted (coding arithmetic servers objects cells table.now)) (λ e. Refused arithmetic.size servers objects cells table.now (coding arithmetic servers objects cells table.now) e) }
+        ensures accepted_or_refused { MatchResult result (λ c. (meaning F.arithmetic c ≡ coding F.arithmetic servers objects cells table.now) × Accepted (coding F.arithmetic servers objects cells table.now)) (λ e. Refused F.arithmetic.size servers objects cells table.now (coding F.arithmetic servers objects cells table.now) e) }
     {
         if let Some(refusal) = refuse_sizes::<F>(servers, objects, cells, table) {
             return Err(refusal);
@@ -46,7 +46,7 @@ impl<F: Field + Copy> Code<F> {
 
     // Whether all servers together recover every object.
     fn all_recovered(&self) -> bool
-        ensures { Decides result (AllRecovered (meaning arithmetic self.now)) }
+        ensures { Decides result (AllRecovered (meaning F.arithmetic self.now)) }
     {
         let everyone = ServerSet::full();
         for x in 0..self.objects {
@@ -65,7 +65,7 @@ fn refuse_sizes<F: Field>(
     cells: usize,
     table: &[u8],
 ) -> Option<Refusal>
-    ensures { result ≡ size_refusal arithmetic.size servers objects cells table.now }
+    ensures { result ≡ size_refusal F.arithmetic.size servers objects cells table.now }
 {
     if !within(MIN_SERVERS, MAX_SERVERS, servers) {
         return Some(Refusal::ServersOutOfBounds);
@@ -92,7 +92,7 @@ fn within(least: usize, most: usize, n: usize) -> bool
 fn is_table<F: Field>(servers: usize, objects: usize, table: &[u8]) -> bool
     requires few { servers ≤ 6 }
     requires narrow { objects ≤ 6 }
-    ensures { result ≡ is_table arithmetic.size servers objects table.now }
+    ensures { result ≡ is_table F.arithmetic.size servers objects table.now }
 {
     table.len() == servers * objects && all_elements::<F>(table)
 }

@@ -23,7 +23,7 @@ use terms::servers::ServerSet;
 impl<F: Field + Copy> Code<F> {
     // Whether the servers of the set recover the object.
     pub fn recovers(&self, set: &ServerSet, object: usize) -> Result<bool, Refusal>
-        ensures decided_or_refused { Answered (recovers_refusal (meaning arithmetic self.now) (member set.now) object) (λ b. Decides b (Recovers (meaning arithmetic self.now) (member set.now) object)) result }
+        ensures decided_or_refused { Answered (recovers_refusal (meaning F.arithmetic self.now) (member set.now) object) (λ b. Decides b (Recovers (meaning F.arithmetic self.now) (member set.now) object)) result }
     {
         if !known(set, self.servers) {
             return Err(Refusal::NoSuchServer);
@@ -37,7 +37,7 @@ impl<F: Field + Copy> Code<F> {
     // The same of any set and object.
     pub(crate) fn decides(&self, set: &ServerSet, object: usize) -> bool
         requires { object < self.now.objects }
-        ensures { Decides result (Recovers (meaning arithmetic self.now) (member set.now) object) }
+        ensures { Decides result (Recovers (meaning F.arithmetic self.now) (member set.now) object) }
     {
         match solve::<F>(self.rows_of(set), object) {
             Some(_) => true,
@@ -52,7 +52,7 @@ impl<F: Field + Copy> Code<F> {
         symbols: &[Cells],
         object: usize,
     ) -> Result<Option<Cells>, Refusal>
-        ensures decoded_or_refused { Answered (decode_refusal (meaning arithmetic self.now) (member set.now) (map items symbols.now) object) (λ o. MatchOption o (Recovers (meaning arithmetic self.now) (member set.now) object → ⊥) (λ v. Decoded (meaning arithmetic self.now) (member set.now) (value_at (map items symbols.now)) object (items v))) result }
+        ensures decoded_or_refused { Answered (decode_refusal (meaning F.arithmetic self.now) (member set.now) (map items symbols.now) object) (λ o. MatchOption o (Recovers (meaning F.arithmetic self.now) (member set.now) object → ⊥) (λ v. Decoded (meaning F.arithmetic self.now) (member set.now) (value_at (map items symbols.now)) object (items v))) result }
     {
         if !known(set, self.servers) {
             return Err(Refusal::NoSuchServer);
@@ -69,7 +69,7 @@ impl<F: Field + Copy> Code<F> {
     fn decoded(&self, set: &ServerSet, symbols: &[Cells], object: usize) -> Option<Cells>
         requires known { known_set self.now.servers (member set.now) ≡ true }
         requires object_within { object < self.now.objects }
-        ensures { MatchOption result (Recovers (meaning arithmetic self.now) (member set.now) object → ⊥) (λ v. Decoded (meaning arithmetic self.now) (member set.now) (value_at (map items symbols.now)) object (items v)) }
+        ensures { MatchOption result (Recovers (meaning F.arithmetic self.now) (member set.now) object → ⊥) (λ v. Decoded (meaning F.arithmetic self.now) (member set.now) (value_at (map items symbols.now)) object (items v)) }
     {
         match solve::<F>(self.rows_of(set), object) {
             None => None,
@@ -79,7 +79,7 @@ impl<F: Field + Copy> Code<F> {
 
     // The rows of the set's servers; the other rows, and the columns past the objects, are 0.
     fn rows_of(&self, set: &ServerSet) -> Matrix
-        ensures { ChosenRows (meaning arithmetic self.now) (member set.now) result }
+        ensures { ChosenRows (meaning F.arithmetic self.now) (member set.now) result }
     {
         let mut rows = [[0u8; 6]; 6];
         for s in 0..self.servers {
@@ -93,7 +93,7 @@ impl<F: Field + Copy> Code<F> {
     // A server's row of coefficients, 0 past the objects.
     fn row_of(&self, server: usize) -> [u8; 6]
         requires { server < self.now.servers }
-        ensures { ChosenRow (meaning arithmetic self.now) server (λ x. slice_index result x) }
+        ensures { ChosenRow (meaning F.arithmetic self.now) server (λ x. slice_index result x) }
     {
         let mut row = [0u8; 6];
         for x in 0..self.objects {
@@ -104,7 +104,7 @@ impl<F: Field + Copy> Code<F> {
 
     // The sum of the set's symbols, each times its server's factor, cell by cell.
     fn weigh(&self, factors: [u8; 6], set: &ServerSet, symbols: &[Cells]) -> Cells
-        ensures { items result ≡ weighed (meaning arithmetic self.now) (λ s. slice_index factors s) (member set.now) (value_at (map items symbols.now)) }
+        ensures { items result ≡ weighed (meaning F.arithmetic self.now) (λ s. slice_index factors s) (member set.now) (value_at (map items symbols.now)) }
     {
         let mut value = Cells::new(0);
         for c in 0..self.cells {
@@ -115,7 +115,7 @@ impl<F: Field + Copy> Code<F> {
 }
 
 fn weigh_cell<F: Field>(factors: [u8; 6], set: &ServerSet, symbols: &[Cells], c: usize) -> u8
-    ensures { result ≡ dot arithmetic 6 (λ s. slice_index factors s) (shown (member set.now) (value_at (map items symbols.now)) c) }
+    ensures { result ≡ dot F.arithmetic 6 (λ s. slice_index factors s) (shown (member set.now) (value_at (map items symbols.now)) c) }
 {
     let mut sum = 0;
     for s in 0..MAX_SERVERS {

@@ -15,7 +15,7 @@ use terms::refusal::Refusal;
 impl<F: Field + Copy> Code<F> {
     // The symbol of a server, from the values of all objects.
     pub fn symbol(&self, server: usize, values: &[Cells]) -> Result<Cells, Refusal>
-        ensures combined_or_refused { Answered (symbol_refusal (meaning arithmetic self.now) server (map items values.now)) (λ v. items v ≡ symbol (meaning arithmetic self.now) server (value_at (map items values.now))) result }
+        ensures combined_or_refused { Answered (symbol_refusal (meaning F.arithmetic self.now) server (map items values.now)) (λ v. items v ≡ symbol (meaning F.arithmetic self.now) server (value_at (map items values.now))) result }
     {
         if server >= self.servers {
             return Err(Refusal::NoSuchServer);
@@ -29,7 +29,7 @@ impl<F: Field + Copy> Code<F> {
     // The combination of the values by the server's row, cell by cell.
     fn combine(&self, server: usize, values: &[Cells]) -> Cells
         requires { server < self.now.servers }
-        ensures { items result ≡ symbol (meaning arithmetic self.now) server (value_at (map items values.now)) }
+        ensures { items result ≡ symbol (meaning F.arithmetic self.now) server (value_at (map items values.now)) }
     {
         let mut symbol = Cells::new(0);
         for c in 0..self.cells {
@@ -41,7 +41,7 @@ impl<F: Field + Copy> Code<F> {
     // One cell of the combination.
     fn combine_cell(&self, server: usize, values: &[Cells], c: usize) -> u8
         requires { server < self.now.servers }
-        ensures { result ≡ combination (meaning arithmetic self.now) server (λ x. slice_index (value_at (map items values.now) x) c) }
+        ensures { result ≡ combination (meaning F.arithmetic self.now) server (λ x. slice_index (value_at (map items values.now) x) c) }
     {
         let mut sum = 0;
         for x in 0..self.objects {
@@ -59,8 +59,8 @@ impl<F: Field + Copy> Code<F> {
         old: &Cells,
         new: &Cells,
     ) -> Result<Cells, Refusal>
-        ensures re_encoded_or_refused { Answered (re_encode_refusal (meaning arithmetic self.now) server object (items symbol.now ∷ items old.now ∷ items new.now ∷ [])) (λ v. items v ≡ re_encoded (meaning arithmetic self.now) server object (items symbol.now) (items old.now) (items new.now)) result }
-        ensures turns_the_symbol { IfOk result (λ t. Turned (meaning arithmetic self.now) server object (items symbol.now) (items old.now) (items new.now) (items t)) }
+        ensures re_encoded_or_refused { Answered (re_encode_refusal (meaning F.arithmetic self.now) server object (items symbol.now ∷ items old.now ∷ items new.now ∷ [])) (λ v. items v ≡ re_encoded (meaning F.arithmetic self.now) server object (items symbol.now) (items old.now) (items new.now)) result }
+        ensures turns_the_symbol { IfOk result (λ t. Turned (meaning F.arithmetic self.now) server object (items symbol.now) (items old.now) (items new.now) (items t)) }
     {
         if server >= self.servers {
             return Err(Refusal::NoSuchServer);
@@ -84,7 +84,7 @@ impl<F: Field + Copy> Code<F> {
     ) -> Cells
         requires server_within { server < self.now.servers }
         requires object_within { object < self.now.objects }
-        ensures { items result ≡ re_encoded (meaning arithmetic self.now) server object (items symbol.now) (items old.now) (items new.now) }
+        ensures { items result ≡ re_encoded (meaning F.arithmetic self.now) server object (items symbol.now) (items old.now) (items new.now) }
     {
         let coefficient = self.at(server, object);
         let mut turned = Cells::new(0);
@@ -100,7 +100,7 @@ impl<F: Field + Copy> Code<F> {
 
 // A cell of a symbol and the coefficient times (after minus before).
 fn turned_cell<F: Field>(coefficient: u8, cell: u8, before: u8, after: u8) -> u8
-    ensures { result ≡ arithmetic.plus cell (arithmetic.times coefficient (arithmetic.plus after (arithmetic.minus before))) }
+    ensures { result ≡ F.arithmetic.plus cell (F.arithmetic.times coefficient (F.arithmetic.plus after (F.arithmetic.minus before))) }
 {
     F::add(cell, F::mul(coefficient, F::add(after, F::neg(before))))
 }

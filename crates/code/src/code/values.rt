@@ -15,14 +15,14 @@ impl<F: Field + Copy> Code<F> {
     pub(crate) fn at(&self, server: usize, object: usize) -> u8
         requires server_within { server < self.now.servers }
         requires object_within { object < self.now.objects }
-        ensures { result ≡ (meaning arithmetic self.now).coefficient server object }
+        ensures { result ≡ (meaning F.arithmetic self.now).coefficient server object }
     {
         self.table.get_or(server * self.objects + object, 0)
     }
 
     // Why these are not the values of n things.
     pub(crate) fn refuse_values(&self, n: usize, values: &[Cells]) -> Option<Refusal>
-        ensures { result ≡ values_refusal (meaning arithmetic self.now) n (map items values.now) }
+        ensures { result ≡ values_refusal (meaning F.arithmetic self.now) n (map items values.now) }
     {
         if !whole_list(values, n, self.cells) {
             return Some(Refusal::WrongLength);
@@ -55,7 +55,7 @@ fn all_long(values: &[Cells], w: usize) -> bool
 
 // Whether each cell of each value is an element.
 fn all_in_field<F: Field>(values: &[Cells]) -> bool
-    ensures { result ≡ all_in_field arithmetic.size (map items values.now) }
+    ensures { result ≡ all_in_field F.arithmetic.size (map items values.now) }
 {
     for v in values {
         if !all_elements::<F>(v.as_slice()) {
@@ -67,7 +67,7 @@ fn all_in_field<F: Field>(values: &[Cells]) -> bool
 
 // Whether each number is an element.
 pub(crate) fn all_elements<F: Field>(numbers: &[u8]) -> bool
-    ensures { result ≡ all_elements arithmetic.size numbers.now }
+    ensures { result ≡ all_elements F.arithmetic.size numbers.now }
 {
     for x in numbers {
         if *x as u16 >= F::size() {

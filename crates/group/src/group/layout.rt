@@ -20,7 +20,7 @@ impl<F: Field + Copy> Group<F> {
         cells: usize,
         table: &[u8],
     ) -> Result<Group<F>, NotMade>
-        ensures new_or_not_made { MatchResult result (New (coding arithmetic servers objects cells table.now) arithmetic) (WhyNotMade arithmetic.size servers objects cells table.now (coding arithmetic servers objects cells table.now)) }
+        ensures new_or_not_made { MatchResult result (New (coding F.arithmetic servers objects cells table.now) F.arithmetic) (WhyNotMade F.arithmetic.size servers objects cells table.now (coding F.arithmetic servers objects cells table.now)) }
     {
         let code = match Code::new(field, servers, objects, cells, table) {
             Ok(code) => code,
@@ -35,7 +35,7 @@ impl<F: Field + Copy> Group<F> {
 
 // A new server for each of the code's.
 fn new_servers<F: Field + Copy>(heap: Global, code: &Code<F>) -> Result<Vec<Server>, AllocError>
-    ensures { IfOk result (λ v. (vec_len v ≡ (meaning arithmetic code.now).servers) × AllNew (meaning arithmetic code.now).cells v.items) }
+    ensures { IfOk result (λ v. (vec_len v ≡ (meaning F.arithmetic code.now).servers) × AllNew (meaning F.arithmetic code.now).cells v.items) }
 {
     let mut servers = Vec::new(heap);
     for i in 0..code.servers() {

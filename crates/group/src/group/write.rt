@@ -32,14 +32,14 @@ fn cell_at(value: &[u8], c: usize) -> u8
 
 // Whether the cell c is an element.
 fn is_element<F: Field>(value: &[u8], c: usize) -> bool
-    ensures { result ≡ nat_lt (slice_index value.now c) arithmetic.size }
+    ensures { result ≡ nat_lt (slice_index value.now c) F.arithmetic.size }
 {
     (cell_at(value, c) as u16) < F::size()
 }
 
 // Whether each of the first cells is an element.
 fn all_elements<F: Field>(value: &[u8], cells: usize) -> bool
-    ensures { result ≡ every cells (λ c. ltb (slice_index value.now c) arithmetic.size) }
+    ensures { result ≡ every cells (λ c. ltb (slice_index value.now c) F.arithmetic.size) }
 {
     let mut all = true;
     for c in 0..cells {
@@ -63,7 +63,7 @@ fn clock_of(holder: &Server, n: usize) -> Clock
 impl<F: Field + Copy> Group<F> {
     // Why the group takes no such value of the object.
     fn refuse_value(&self, object: usize, value: &[u8]) -> Option<Refusal>
-        ensures { (places : ℕ) → result ≡ value_refusal (layout arithmetic self.now places) object value.now }
+        ensures { (places : ℕ) → result ≡ value_refusal (layout F.arithmetic self.now places) object value.now }
     {
         if object >= self.code.objects() {
             return Some(Refusal::NoSuchObject);
@@ -85,7 +85,7 @@ impl<F: Field + Copy> Group<F> {
         object: usize,
         value: &[u8],
     ) -> Option<Refusal>
-        ensures { result ≡ check (nat_le self.now.code.servers (n carrier.now)) NoSuchServer (write_refusal (layout arithmetic self.now (p carrier.now)) (state self.now (lanes carrier.now)) s object value.now) }
+        ensures { result ≡ check (nat_le self.now.code.servers (n carrier.now)) NoSuchServer (write_refusal (layout F.arithmetic self.now (p carrier.now)) (state self.now (lanes carrier.now)) s object value.now) }
     {
         let me = match self.reach(carrier, s) {
             Ok(me) => me,
@@ -111,8 +111,8 @@ impl<F: Field + Copy> Group<F> {
         object: usize,
         value: &[u8],
     ) -> Result<Tag, Refusal>
-        ensures answer { write_told result ≡ (reached (nat_le self.old.code.servers (n carrier.old)) (state self.old (lanes carrier.old)) (write (layout arithmetic self.old (p carrier.old)) (state self.old (lanes carrier.old)) s object value.now)).answer }
-        ensures after { state self.new (lanes carrier.new) ≡ (reached (nat_le self.old.code.servers (n carrier.old)) (state self.old (lanes carrier.old)) (write (layout arithmetic self.old (p carrier.old)) (state self.old (lanes carrier.old)) s object value.now)).next }
+        ensures answer { write_told result ≡ (reached (nat_le self.old.code.servers (n carrier.old)) (state self.old (lanes carrier.old)) (write (layout F.arithmetic self.old (p carrier.old)) (state self.old (lanes carrier.old)) s object value.now)).answer }
+        ensures after { state self.new (lanes carrier.new) ≡ (reached (nat_le self.old.code.servers (n carrier.old)) (state self.old (lanes carrier.old)) (write (layout F.arithmetic self.old (p carrier.old)) (state self.old (lanes carrier.old)) s object value.now)).next }
         ensures same_code { self.new.code ≡ self.old.code }
         ensures same_servers { n carrier.new ≡ n carrier.old }
         ensures same_places { p carrier.new ≡ p carrier.old }
@@ -131,9 +131,9 @@ impl<F: Field + Copy> Group<F> {
         object: usize,
         value: &[u8],
     ) -> Tag
-        requires { Writable (layout arithmetic self.old (p carrier.old)) (state self.old (lanes carrier.old)) s object value.now (n carrier.old) }
+        requires { Writable (layout F.arithmetic self.old (p carrier.old)) (state self.old (lanes carrier.old)) s object value.now (n carrier.old) }
         ensures tag { result ≡ write_tag ((state self.old (lanes carrier.old)).servers s) s }
-        ensures after { state self.new (lanes carrier.new) ≡ write_done (layout arithmetic self.old (p carrier.old)) (state self.old (lanes carrier.old)) s object value.now }
+        ensures after { state self.new (lanes carrier.new) ≡ write_done (layout F.arithmetic self.old (p carrier.old)) (state self.old (lanes carrier.old)) s object value.now }
         ensures same_code { self.new.code ≡ self.old.code }
         ensures same_servers { n carrier.new ≡ n carrier.old }
         ensures same_places { p carrier.new ≡ p carrier.old }

@@ -26,7 +26,7 @@ use terms::refusal::Refusal;
 impl<F: Field + Copy> Group<F> {
     // The server, if the group has it.
     fn at(&self, server: usize) -> Result<&Server, Refusal>
-        ensures { Answered (server_refusal (meaning arithmetic self.now.code) server) (λ p. seen p.now ≡ server_of self.now server) result }
+        ensures { Answered (server_refusal (meaning F.arithmetic self.now.code) server) (λ p. seen p.now ≡ server_of self.now server) result }
     {
         if server >= self.code.servers() {
             return Err(Refusal::NoSuchServer);
@@ -36,7 +36,7 @@ impl<F: Field + Copy> Group<F> {
 
     // The server, if the group has it and the object.
     fn at_object(&self, server: usize, object: usize) -> Result<&Server, Refusal>
-        ensures { Answered (place_refusal (meaning arithmetic self.now.code) server object) (λ p. seen p.now ≡ server_of self.now server) result }
+        ensures { Answered (place_refusal (meaning F.arithmetic self.now.code) server object) (λ p. seen p.now ≡ server_of self.now server) result }
     {
         let holder = self.at(server)?;
         if object >= self.code.objects() {
@@ -47,28 +47,28 @@ impl<F: Field + Copy> Group<F> {
 
     // How many writes of each server are applied at the server.
     pub fn clock(&self, server: usize) -> Result<Clock, Refusal>
-        ensures found_or_refused { Answered (server_refusal (meaning arithmetic self.now.code) server) (λ counts. items counts ≡ listed self.now.code.servers (server_of self.now server).clock) result }
+        ensures found_or_refused { Answered (server_refusal (meaning F.arithmetic self.now.code) server) (λ counts. items counts ≡ listed self.now.code.servers (server_of self.now server).clock) result }
     {
         let holder = self.at(server)?;
         Ok(clock_of(holder, &self.code))
     }
 
     pub fn symbol(&self, server: usize) -> Result<Cells, Refusal>
-        ensures found_or_refused { Answered (server_refusal (meaning arithmetic self.now.code) server) (λ cells. items cells ≡ (server_of self.now server).symbol) result }
+        ensures found_or_refused { Answered (server_refusal (meaning F.arithmetic self.now.code) server) (λ cells. items cells ≡ (server_of self.now server).symbol) result }
     {
         Ok(self.at(server)?.symbol())
     }
 
     // The server's own tag of the object.
     pub fn own_tag(&self, server: usize, object: usize) -> Result<Tag, Refusal>
-        ensures found_or_refused { Answered (place_refusal (meaning arithmetic self.now.code) server object) (λ tag. tag ≡ (server_of self.now server).own object) result }
+        ensures found_or_refused { Answered (place_refusal (meaning F.arithmetic self.now.code) server object) (λ tag. tag ≡ (server_of self.now server).own object) result }
     {
         Ok(self.at_object(server, object)?.own_tag(object))
     }
 
     // The tag of the object that the teller has told the server last.
     pub fn told_tag(&self, server: usize, object: usize, teller: usize) -> Result<Tag, Refusal>
-        ensures found_or_refused { Answered (told_refusal (meaning arithmetic self.now.code) server object teller) (λ tag. tag ≡ (server_of self.now server).told object teller) result }
+        ensures found_or_refused { Answered (told_refusal (meaning F.arithmetic self.now.code) server object teller) (λ tag. tag ≡ (server_of self.now server).told object teller) result }
     {
         let holder = self.at(server)?;
         self.at_object(teller, object)?;
@@ -77,21 +77,21 @@ impl<F: Field + Copy> Group<F> {
 
     // How many entries the server's history has.
     pub fn history_len(&self, server: usize) -> Result<usize, Refusal>
-        ensures found_or_refused { Answered (server_refusal (meaning arithmetic self.now.code) server) (λ count. count ≡ length (server_of self.now server).history) result }
+        ensures found_or_refused { Answered (server_refusal (meaning F.arithmetic self.now.code) server) (λ count. count ≡ length (server_of self.now server).history) result }
     {
         Ok(self.at(server)?.history().len())
     }
 
     // How many writes wait at the server.
     pub fn waiting_len(&self, server: usize) -> Result<usize, Refusal>
-        ensures found_or_refused { Answered (server_refusal (meaning arithmetic self.now.code) server) (λ count. count ≡ length (server_of self.now server).waiting) result }
+        ensures found_or_refused { Answered (server_refusal (meaning F.arithmetic self.now.code) server) (λ count. count ≡ length (server_of self.now server).waiting) result }
     {
         Ok(self.at(server)?.waiting().len())
     }
 
     // How many reads of clients are open or answered at the server.
     pub fn reads_len(&self, server: usize) -> Result<usize, Refusal>
-        ensures found_or_refused { Answered (server_refusal (meaning arithmetic self.now.code) server) (λ count. count ≡ in_use max_client_reads (server_of self.now server).reads) result }
+        ensures found_or_refused { Answered (server_refusal (meaning F.arithmetic self.now.code) server) (λ count. count ≡ in_use max_client_reads (server_of self.now server).reads) result }
     {
         Ok(used_by_clients(self.at(server)?.reads()))
     }

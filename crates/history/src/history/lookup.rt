@@ -82,7 +82,7 @@ impl History {
 
     // The value at a place that was found; past all entries it is the zero record.
     pub fn value_at<F: Field + Copy>(&self, code: &Code<F>, at: usize) -> Cells
-        ensures value { items result ≡ value_at (meaning arithmetic code.now).cells (entries self.now) at }
+        ensures value { items result ≡ value_at (meaning F.arithmetic code.now).cells (entries self.now) at }
     {
         if at < self.entries.len() {
             self.entries[at].value
@@ -93,7 +93,7 @@ impl History {
 
     // The object's value under the tag, and the zero record where it is not held.
     pub fn value_under<F: Field + Copy>(&self, code: &Code<F>, object: usize, tag: Tag) -> Cells
-        ensures value { items result ≡ value_under (meaning arithmetic code.now).cells (entries self.now) object tag }
+        ensures value { items result ≡ value_under (meaning F.arithmetic code.now).cells (entries self.now) object tag }
     {
         match self.find(object, tag) {
             Some(at) => self.value_at(code, at),
@@ -117,7 +117,7 @@ impl History {
 
 // The zero record: as many zero cells as a value of the code has.
 pub fn zero_cells<F: Field + Copy>(code: &Code<F>) -> Cells
-    ensures value { items result ≡ zero_record (meaning arithmetic code.now).cells }
+    ensures value { items result ≡ zero_record (meaning F.arithmetic code.now).cells }
 {
     zeros(code.cells())
 }

@@ -36,7 +36,7 @@ impl Told {
 impl Server {
     // A new server: all is zero or empty.
     pub fn new<F: Field + Copy>(heap: Global, code: &Code<F>) -> Result<Server, AllocError>
-        ensures new { IfOk result (λ s. server s ≡ new_server (meaning arithmetic code.now).cells) }
+        ensures new { IfOk result (λ s. server s ≡ new_server (meaning F.arithmetic code.now).cells) }
     {
         let nobody = Told {
             tags: [Tag::zero(); MAX_SERVERS],

@@ -85,8 +85,8 @@ impl Server {
 
     // Forgets what no server needs of the object any more, and tells how many entries those were.
     pub fn sweep<F: Field + Copy>(&mut self, code: &Code<F>, object: ObjectNumber) -> usize
-        ensures removed { (places : ℕ) → result ≡ length (server self.old).history - length (swept (laid (meaning arithmetic code.now) places) (server self.old) object.number) }
-        ensures after { (places : ℕ) → server self.new ≡ sifted (server self.old) (swept (laid (meaning arithmetic code.now) places) (server self.old) object.number) }
+        ensures removed { (places : ℕ) → result ≡ length (server self.old).history - length (swept (laid (meaning F.arithmetic code.now) places) (server self.old) object.number) }
+        ensures after { (places : ℕ) → server self.new ≡ sifted (server self.old) (swept (laid (meaning F.arithmetic code.now) places) (server self.old) object.number) }
     {
         let before = self.history.len();
         let n = code.servers();

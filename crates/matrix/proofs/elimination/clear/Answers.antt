@@ -22,10 +22,10 @@ loop-i-preserved g c =
           let is : w.neg-factor.result ≡ factor i =
           w.neg-factor.ensures.negative
           ∙ ap a.minus (w.mul.ensures.product ∙ ap₂ a.times (ap (λ (r : List ℕ). get_or r c.args.c 0) at_i) c.inv-scale.ensures.inverted) in
-          let new : Added a (factor i) (entry rows i) (entry rows p) (λ j. get_or w.add-multiple.result j 0) = λ j h.
-          w.add-multiple.ensures j h
+          let new : Added a (factor i) (entry rows i) (entry rows p) (λ j. get_or w.add_multiple.result j 0) = λ j h.
+          w.add_multiple.ensures j h
           ∙ ap₂ (λ (v f : ℕ). a.plus v (a.times f (entry rows p j))) (ap (λ (r : List ℕ). get_or r j 0) at_i) is in
-          subst After (sym w.cleared-is) (clearing_more c.loop-i.invariant w.add-multiple.result c.loop-i-test.true w.if-i-p.true new)
+          subst After (sym w.cleared-is) (clearing_more c.loop-i.invariant w.add_multiple.result c.loop-i-test.true w.if-i-p.true new)
       | else-i-p w ↦ subst After (sym w.cleared-is) (clearing_skip c.loop-i.invariant w.if-i-p.false)
     ]
 

@@ -23,10 +23,10 @@ loop-c-preserved g c =
       | then-c-k+then-p-lt6 w ↦
           subst₂ After (sym w.rows-is) (sym w.lead-is)
           (reducing_more ring inverses k start rows lead column within at
-          w.find-pivot-p.result w.clear-rows.result w.if-p-lt6.true w.if-c-k.true w.find-pivot-p.ensures w.clear-rows.ensures)
+          w.find_pivot-p.result w.clear-rows.result w.if-p-lt6.true w.if-c-k.true w.find_pivot-p.ensures w.clear-rows.ensures)
       | then-c-k+else-p-lt6 w ↦
           subst₂ After (sym w.rows-is) (sym w.lead-is)
-          (reducing_free ring inverses k start rows lead column within at w.find-pivot-p.result w.if-p-lt6.false w.find-pivot-p.ensures)
+          (reducing_free ring inverses k start rows lead column within at w.find_pivot-p.result w.if-p-lt6.false w.find_pivot-p.ensures)
       | else-c-k w ↦
           subst₂ After (sym w.rows-is) (sym w.lead-is) (reducing_skip ring inverses k start rows lead column within at w.if-c-k.false)
     ]

@@ -11,13 +11,13 @@ pub returns-then-p-ge6 : goal.returns-then-p-ge6
 returns-then-p-ge6 g c =
     undetermined g.met.F.Field.ring c.args.rows c.widen.result c.widen.ensures g.met.F.Field.inverses
     c.args.k c.requires c.reduce-reduced.result.rows c.reduce-reduced.result.lead c.reduce-reduced.ensures
-    (c.find-pivot-p.ensures.none c.if-p-ge6.true)
+    (c.find_pivot-p.ensures.none c.if-p-ge6.true)
 
 pub returns : goal.returns
 returns g c =
     let end = c.reduce-reduced.result in
-    let p = c.find-pivot-p.result in
-    let found = c.find-pivot-p.ensures.found c.if-p-ge6.false in
+    let p = c.find_pivot-p.result in
+    let found = c.find_pivot-p.ensures.found c.if-p-ge6.false in
     solved g.met.F.Field.ring c.args.rows c.widen.result c.widen.ensures g.met.F.Field.inverses
     c.args.k c.requires end.rows end.lead c.reduce-reduced.ensures
     p c.scaled.result c.if-p-ge6.false found.0 found.1

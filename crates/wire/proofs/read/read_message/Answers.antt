@@ -4,6 +4,6 @@ use Rattle.wire.proofs.read.read_message.Goals as goal
 
 pub returns : goal.returns
 returns c = record {
-  answer = c.read-record.ensures.answer;
-  undoes_writing = tells c.args.bytes.now c.read-record.result (bytes_from c.args.bytes.now (λ i. omega (arith, c.type-inv.bytes i))) c.read-record.ensures.answer;
+  answer = c.read_record.ensures.answer;
+  undoes_writing = tells c.args.bytes.now c.read_record.result (bytes_from c.args.bytes.now (λ i. omega (arith, c.type_inv.bytes i))) c.read_record.ensures.answer;
 }

@@ -5,4 +5,4 @@ use Rattle.wire.proofs.Puts.{chain3}
 use Rattle.wire.proofs.write.plain_reply.Goals as goal
 
 pub returns : goal.returns
-returns c = record { written = chain3 _ _ _ _ (four 4) (four c.args.read) (opaque_bytes (items c.args.value.now)) c.empty-out.ensures.none c.put-number.ensures.added c.put-number-2.ensures.added c.put-opaque.ensures.added }
+returns c = record { written = chain3 _ _ _ _ (four 4) (four c.args.read) (opaque_bytes (items c.args.value.now)) c.empty-out.ensures.none c.put_number.ensures.added c.put_number-2.ensures.added c.put_opaque.ensures.added }

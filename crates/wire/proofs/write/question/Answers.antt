@@ -9,12 +9,12 @@ use Rattle.wire.proofs.Puts.{chain4, few_items}
 use Rattle.wire.proofs.Whole.{joined_long}
 use Rattle.wire.proofs.write.question.Goals as goal
 
-pub put-list-requires : goal.put-list-requires
-put-list-requires c =
+pub put_list-requires : goal.put_list-requires
+put_list-requires c =
     let l = items c.args.tags.now in
     let few : length l ≤ max_objects = few_items c.args.tags.now in
-    let shown = c.as-slice.ensures.shown in
-    (omega (arith, ap length c.empty-out.ensures.none, c.put-number.ensures.len, c.put-number-2.ensures.len, c.put-number-3.ensures.len, ap (λ k. length (flat_map tag_bytes k)) shown, joined_long tag_bytes 8 (λ x. refl) l max_objects few), omega (arith, ap length shown))
+    let shown = c.as_slice.ensures.shown in
+    (omega (arith, ap length c.empty-out.ensures.none, c.put_number.ensures.len, c.put_number-2.ensures.len, c.put_number-3.ensures.len, ap (λ k. length (flat_map tag_bytes k)) shown, joined_long tag_bytes 8 (λ x. refl) l max_objects few), omega (arith, ap length shown))
 
 pub returns : goal.returns
-returns c = record { written = chain4 _ _ _ _ _ (four 3) (four c.args.read) (four c.args.object) (counted_bytes tag_bytes (items c.args.tags.now)) c.empty-out.ensures.none c.put-number.ensures.added c.put-number-2.ensures.added c.put-number-3.ensures.added (c.put-list.ensures.added ∙ ap (λ l. body_so_far c.put-number-3.new.self ++ counted_bytes tag_bytes l) c.as-slice.ensures.shown) }
+returns c = record { written = chain4 _ _ _ _ _ (four 3) (four c.args.read) (four c.args.object) (counted_bytes tag_bytes (items c.args.tags.now)) c.empty-out.ensures.none c.put_number.ensures.added c.put_number-2.ensures.added c.put_number-3.ensures.added (c.put_list.ensures.added ∙ ap (λ l. body_so_far c.put_number-3.new.self ++ counted_bytes tag_bytes l) c.as_slice.ensures.shown) }

@@ -9,12 +9,12 @@ use Rattle.wire.proofs.Puts.{chain5, few_items}
 use Rattle.wire.proofs.Whole.{joined_long}
 use Rattle.wire.proofs.write.write_notice.Goals as goal
 
-pub put-list-requires : goal.put-list-requires
-put-list-requires c =
+pub put_list-requires : goal.put_list-requires
+put_list-requires c =
     let l = items c.args.clock.now in
     let few : length l ≤ max_servers = few_items c.args.clock.now in
-    let shown = c.as-slice.ensures.shown in
-    (omega (arith, ap length c.empty-out.ensures.none, c.put-number.ensures.len, c.put-number-2.ensures.len, c.put-opaque.ensures.len, c.put-number-3.ensures.len, ap (λ k. length (flat_map four k)) shown, joined_long four 4 (λ x. refl) l max_servers few), omega (arith, ap length shown))
+    let shown = c.as_slice.ensures.shown in
+    (omega (arith, ap length c.empty-out.ensures.none, c.put_number.ensures.len, c.put_number-2.ensures.len, c.put_opaque.ensures.len, c.put_number-3.ensures.len, ap (λ k. length (flat_map four k)) shown, joined_long four 4 (λ x. refl) l max_servers few), omega (arith, ap length shown))
 
 pub returns : goal.returns
-returns c = record { written = chain5 _ _ _ _ _ _ (four 1) (four c.args.object) (opaque_bytes (items c.args.value.now)) (four c.args.height) (counted_bytes four (items c.args.clock.now)) c.empty-out.ensures.none c.put-number.ensures.added c.put-number-2.ensures.added c.put-opaque.ensures.added c.put-number-3.ensures.added (c.put-list.ensures.added ∙ ap (λ l. body_so_far c.put-number-3.new.self ++ counted_bytes four l) c.as-slice.ensures.shown) }
+returns c = record { written = chain5 _ _ _ _ _ _ (four 1) (four c.args.object) (opaque_bytes (items c.args.value.now)) (four c.args.height) (counted_bytes four (items c.args.clock.now)) c.empty-out.ensures.none c.put_number.ensures.added c.put_number-2.ensures.added c.put_opaque.ensures.added c.put_number-3.ensures.added (c.put_list.ensures.added ∙ ap (λ l. body_so_far c.put_number-3.new.self ++ counted_bytes four l) c.as_slice.ensures.shown) }

@@ -5,16 +5,16 @@ use Rattle.wire.specs.Bodies.{body_so_far}
 use Rattle.wire.proofs.Puts.{put_more}
 use Rattle.wire.proofs.body.Body.put_bytes.Goals as goal
 
-pub invariant-of-self : goal.invariant-of-self
-invariant-of-self c =
+pub invariant_of-self : goal.invariant_of-self
+invariant_of-self c =
     let b = c.args.self.now in
     let long : length (body_so_far b) ≡ b.len = length-take-le b.len b.bytes (omega (arith, b.fits, b.whole)) in
-    (same_len_mid b.len (b.len + length c.args.more.now - b.len) b.bytes c.copy-from-slice.new.self c.copy-from-slice.ensures.len ∙ b.whole, (omega arith, tt))
+    (same_len_mid b.len (b.len + length c.args.more.now - b.len) b.bytes c.copy_from_slice.new.self c.copy_from_slice.ensures.len ∙ b.whole, (omega arith, tt))
 
 pub returns : goal.returns
 returns c =
     let b = c.args.self.now in
     let more : List ℕ = c.args.more.now in
     let long : length (body_so_far b) ≡ b.len = length-take-le b.len b.bytes (omega (arith, b.fits, b.whole)) in
-    let all : take (b.len + length more) (put_mid b.len (b.len + length more - b.len) b.bytes c.copy-from-slice.new.self) ≡ body_so_far b ++ more = put_more b.bytes more c.copy-from-slice.new.self b.len c.copy-from-slice.ensures.after (omega (arith, b.whole)) in
+    let all : take (b.len + length more) (put_mid b.len (b.len + length more - b.len) b.bytes c.copy_from_slice.new.self) ≡ body_so_far b ++ more = put_more b.bytes more c.copy_from_slice.new.self b.len c.copy_from_slice.ensures.after (omega (arith, b.whole)) in
     record { added = all; len = ap length all ∙ length-append _ _ }

@@ -5,6 +5,6 @@ use Rattle.wire.proofs.body.Body.put_tag.Goals as goal
 
 pub returns : goal.returns
 returns c = record {
-  added = two _ _ _ (four c.args.t.height) (four c.args.t.server) c.put-number.ensures.added c.put-number-2.ensures.added;
-  len = omega (arith, c.put-number-2.ensures.len, c.put-number.ensures.len);
+  added = two _ _ _ (four c.args.t.height) (four c.args.t.server) c.put_number.ensures.added c.put_number-2.ensures.added;
+  len = omega (arith, c.put_number-2.ensures.len, c.put_number.ensures.len);
 }
