@@ -1,4 +1,4 @@
-use Rattle.std.proofs.Common.{◌≡◌, ℕ, false, List, map, sym, subst, arith}
+use Rattle.std.proofs.Common.{ℕ, false, List, map, sym, subst, arith}
 use Rattle.std.proofs.lemmas.List.{get_or_past}
 use Rattle.terms.specs.Items.{items}
 use Rattle.code.specs.Codings.{value_at}

@@ -1,4 +1,4 @@
-use Rattle.std.proofs.Common.{◌≡◌, ℕ, List, [], ◌∷◌, sym, ap, ◌∙◌, subst, arith, lit<, rules}
+use Rattle.std.proofs.Common.{ℕ, List, [], ◌∷◌, sym, subst, lit<, rules}
 use Rattle.terms.specs.Items.{items}
 use Rattle.code.specs.Codings.{Turned}
 use Rattle.code.specs.Meaning.{meaning}
