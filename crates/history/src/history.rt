@@ -13,6 +13,7 @@ pub mod lookup;
 pub mod sifting;
 
 // So that messages made of an entry are within their ranges, its tag is, and its value has cells.
+#[derive(Clone, Copy)]
 pub struct Entry {
     pub object: usize,
     pub tag: Tag,
@@ -20,8 +21,6 @@ pub struct Entry {
     ghost tag_in_range: { tag_ok tag ≡ true },
     ghost some_cells: { 1 ≤ length (items value) },
 }
-
-impl Copy for Entry {}
 
 // The room for all entries is reserved when the history is made.
 #[derive(Drop)]

@@ -1,5 +1,5 @@
 -- Reads as the rules see them, and what an event makes of one. Assumes nothing.
-use Rattle.std.specs.Prelude.{ℕ, Bool, true, false, List, map, vec_items, slice_index_or}
+use Rattle.std.specs.Prelude.{ℕ, Bool, List, map, vec_items, slice_index_or}
 use Rattle.terms.specs.Items.{items}
 use Rattle.terms.specs.Sets.{member}
 use Rattle.message.specs.declared.tag.Tag.{Tag}

@@ -5,24 +5,21 @@ ghost use Rattle.rules.specs.State.{all_reads};
 
 pub mod checks;
 
+#[derive(Clone, Copy)]
 pub struct ServerNumber {
     pub number: usize,
     ghost within: { number < max_servers },
 }
 
-impl Copy for ServerNumber {}
-
+#[derive(Clone, Copy)]
 pub struct ObjectNumber {
     pub number: usize,
     ghost within: { number < max_objects },
 }
 
-impl Copy for ObjectNumber {}
-
 // The place of a read in a server's table.
+#[derive(Clone, Copy)]
 pub struct ReadPlace {
     pub number: usize,
     ghost within: { number < all_reads },
 }
-
-impl Copy for ReadPlace {}

@@ -14,6 +14,7 @@ pub mod events;
 pub mod places;
 
 // An open read: its number, its object, the server's own tags when it was opened, and the symbols in hand.
+#[derive(Clone, Copy)]
 pub struct Asking {
     pub number: u32,
     pub object: usize,
@@ -26,8 +27,6 @@ pub struct Asking {
     ghost symbol_each: { length symbols ≡ max_servers },
     ghost tags_in_range: { (x : ℕ) → tag_ok (slice_index_or tags x zero_tag) ≡ true },
 }
-
-impl Copy for Asking {}
 
 // An answered read that is not collected yet.
 #[derive(Clone, Copy)]

@@ -1,11 +1,9 @@
 -- One more place in the choice of the next write. Assumes nothing.
-use Rattle.std.proofs.Common.{◌≡◌, ℕ, zero, suc, ◌+◌, ◌<◌, Bool, true, false, cond, List, map, length, get_or, Some, None, Option, sym, refl, ap, ◌∙◌, subst, ap₂, add-one}
+use Rattle.std.proofs.Common.{◌≡◌, ℕ, zero, suc, ◌+◌, ◌<◌, Bool, true, false, cond, List, Some, None, Option, sym, refl, ap, ◌∙◌, subst, ap₂, add-one}
 use Rattle.message.specs.Tags.{lower}
 use Rattle.rules.specs.State as rules
-use Rattle.rules.specs.Writing.{no_write, write_at, better, next_ready}
-use Rattle.server.specs.Writes.{write, ready, better_of, next_of, Inside}
-use Rattle.server.specs.declared.waiting.Waiting.{Waiting}
-use Rattle.server.proofs.Lists.{map_at}
+use Rattle.rules.specs.Writing.{write_at, better, next_ready}
+use Rattle.server.specs.Writes.{ready, better_of, next_of, Inside}
 
 module _ (n : ℕ) (clock : ℕ → ℕ) (ws : List rules.Waiting) (i : ℕ) (w : rules.Waiting) (is : w ≡ write_at ws i) where
   tested : (r : Bool) → r ≡ ready n clock w → (best : Option ℕ) → cond r (better ws best i) best ≡ better_of n clock ws best i

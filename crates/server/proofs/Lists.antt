@@ -1,6 +1,6 @@
 -- Lists seen through a map. Assumes nothing.
-use Rattle.std.proofs.Common.{◌≡◌, ℕ, zero, suc, ◌+◌, ◌<◌, Bool, true, false, cond, List, [], ◌∷◌, ◌++◌, map, length, get_or, take, drop, set, filter, sym, refl, ap, ◌∙◌, ap₂}
-use Rattle.std.proofs.lemmas.List.{get_or-map, map-append, map-set}
+use Rattle.std.proofs.Common.{◌≡◌, ℕ, zero, suc, ◌<◌, Bool, true, false, cond, List, [], ◌∷◌, ◌++◌, map, length, get_or, take, drop, filter, sym, refl, ap, ◌∙◌, ap₂}
+use Rattle.std.proofs.lemmas.List.{get_or-map, map-append}
 
 module _ {A B : Type 0} (f : A → B) where
   map_take : (i : ℕ) (xs : List A) → map f (take i xs) ≡ take i (map f xs)

@@ -12,6 +12,7 @@ pub mod events;
 pub mod places;
 
 // An open read: its number, its object, the server's own tags when it was opened, and the symbols in hand.
+#[derive(Clone, Copy)]
 pub struct Asking {
     pub number: u32,
     pub object: usize,
@@ -23,8 +24,6 @@ pub struct Asking {
     ghost tag_each: { length tags ≡ max_objects },
     ghost symbol_each: { length symbols ≡ max_servers },
 }
-
-impl Copy for Asking {}
 
 // An answered read that is not collected yet.
 #[derive(Clone, Copy)]

@@ -11,6 +11,7 @@ pub mod edits;
 pub mod ready;
 
 // A write as its server told of it: the clock is that server's when it made the write.
+#[derive(Clone, Copy)]
 pub struct Waiting {
     pub object: usize,
     pub tag: Tag,
@@ -19,8 +20,6 @@ pub struct Waiting {
     ghost counts_in_range: { (j : ℕ) → slice_index (items clock) j ≤ max_count },
     ghost known: { tag.server < max_servers },
 }
-
-impl Copy for Waiting {}
 
 // The room for all waiting writes is reserved when the queue is made.
 #[derive(Drop)]

@@ -1,5 +1,5 @@
 -- Waiting writes as the rules see them, and which is ready. Assumes nothing.
-use Rattle.std.specs.Prelude.{ℕ, zero, suc, ◌+◌, Bool, cond, List, map, Some, None, vec_items, Option, ◌==◌, nat_le, slice_index}
+use Rattle.std.specs.Prelude.{ℕ, zero, suc, ◌+◌, Bool, cond, List, map, None, vec_items, Option, ◌==◌, nat_le, slice_index}
 use Rattle.terms.specs.Items.{items}
 pub use Rattle.reads.specs.Places.{Inside}
 use Rattle.rules.specs.State as rules

@@ -12,6 +12,7 @@ pub mod edits;
 pub mod ready;
 
 // A write as its server told of it: the clock is that server's when it made the write.
+#[derive(Clone, Copy)]
 pub struct Waiting {
     pub object: usize,
     pub tag: Tag,
@@ -22,8 +23,6 @@ pub struct Waiting {
     ghost tag_in_range: { tag_ok tag ≡ true },
     ghost some_cells: { 1 ≤ length (items value) },
 }
-
-impl Copy for Waiting {}
 
 // The room for all waiting writes is reserved when the queue is made.
 #[derive(Drop)]

@@ -1,4 +1,4 @@
-use Rattle.std.proofs.Common.{◌≡◌, Bool, map, sym, ap, ◌∙◌}
+use Rattle.std.proofs.Common.{Bool, map, sym, ap, ◌∙◌}
 use Rattle.rules.specs.Histories.{is_entry}
 use Rattle.history.specs.Entries.{entry, first}
 use Rattle.history.specs.declared.history.Entry.{Entry}

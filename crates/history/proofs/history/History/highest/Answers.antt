@@ -1,5 +1,5 @@
-use Rattle.std.proofs.Common.{◌≡◌, Bool, true, false, cond, map, vec_items, fold, sym, ap, ◌∙◌, take_all}
-use Rattle.message.specs.Tags.{zero_tag, lower}
+use Rattle.std.proofs.Common.{◌≡◌, Bool, true, false, cond, vec_items, fold, ap, ◌∙◌, take_all}
+use Rattle.message.specs.Tags.{zero_tag}
 use Rattle.message.specs.declared.tag.Tag.{Tag}
 use Rattle.rules.specs.Histories as rules
 use Rattle.rules.specs.Histories.{raised, highest}

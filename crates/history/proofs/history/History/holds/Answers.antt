@@ -1,8 +1,8 @@
-use Rattle.std.proofs.Common.{◌≡◌, ℕ, is_some, Option, sym, ap, ◌∙◌}
+use Rattle.std.proofs.Common.{ℕ, is_some, Option, ap, ◌∙◌}
 use Rattle.history.specs.Entries.{entries}
 use Rattle.history.proofs.Held.{place_holds}
 use Rattle.history.proofs.history.History.holds.Goals as goal
 
 pub returns : goal.returns
 returns c =
-    record { decided = c.is-some.ensures ∙ ap (λ (o : Option ℕ). is_some o) c.find.ensures.place ∙ place_holds (entries c.args.self.now) c.args.object c.args.tag }
+    record { decided = c.is_some.ensures ∙ ap (λ (o : Option ℕ). is_some o) c.find.ensures.place ∙ place_holds (entries c.args.self.now) c.args.object c.args.tag }

@@ -1,5 +1,5 @@
-use Rattle.std.proofs.Common.{◌≡◌, ◌<◌, ◌≤◌, Bool, true, false, not, map, length, take, vec_items, sym, refl, ap, ◌∙◌, arith}
-use Rattle.std.proofs.lemmas.List.Filters.{FiltersInPlace, FiltersInPlace-all, FiltersInPlace-more_no, FiltersInPlace-more_set}
+use Rattle.std.proofs.Common.{◌<◌, ◌≤◌, not, map, length, vec_items, sym, ap, ◌∙◌, arith}
+use Rattle.std.proofs.lemmas.List.Filters.{FiltersInPlace-all, FiltersInPlace-more_no, FiltersInPlace-more_set}
 use Rattle.rules.specs.Histories as rules
 use Rattle.history.specs.Entries.{entry}
 use Rattle.reads.specs.Readings.{reads}
@@ -8,8 +8,8 @@ use Rattle.reads.proofs.Lists.{kept_by_map}
 use Rattle.history.proofs.history.History.sift.Goals as goal
 use Rattle.history.proofs.history.History.sift.Goals.{then-not-goes, else-not-goes}
 
-pub index-mut-requires : goal.index-mut-requires
-index-mut-requires c = omega (arith, c.loop-i.invariant.long, c.loop-i.invariant.behind, c.loop-i.invariant.within)
+pub index_mut-requires : goal.index_mut-requires
+index_mut-requires c = omega (arith, c.loop-i.invariant.long, c.loop-i.invariant.behind, c.loop-i.invariant.within)
 
 pub loop-i-preserved : goal.loop-i-preserved
 loop-i-preserved c =

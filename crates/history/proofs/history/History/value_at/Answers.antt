@@ -1,4 +1,4 @@
-use Rattle.std.proofs.Common.{◌≡◌, ◌<◌, ◌≤◌, length, vec_items, sym, ap, ◌∙◌, arith}
+use Rattle.std.proofs.Common.{◌<◌, ◌≤◌, length, vec_items, sym, ap, ◌∙◌, arith}
 use Rattle.std.proofs.lemmas.List.{length-map, get_or-map}
 use Rattle.history.specs.Entries.{entry, entries}
 use Rattle.history.proofs.Held.{value_in, value_past}
@@ -16,4 +16,4 @@ pub returns-else-at-len : goal.returns-else-at-len
 returns-else-at-len g c =
     let es = vec_items c.args.self.now.entries in
     let past : length (entries c.args.self.now) ≤ c.args.at = omega (arith, length-map es entry) in
-    record { value = c.zero-cells.ensures.value ∙ value_past c.args.code.now.cells (entries c.args.self.now) c.args.at past }
+    record { value = c.zero_cells.ensures.value ∙ value_past c.args.code.now.cells (entries c.args.self.now) c.args.at past }

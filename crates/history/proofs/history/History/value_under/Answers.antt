@@ -1,4 +1,4 @@
-use Rattle.std.proofs.Common.{◌≡◌, ℕ, Option, sym, ap, ◌∙◌}
+use Rattle.std.proofs.Common.{ap, ◌∙◌}
 use Rattle.history.specs.Entries.{entries}
 use Rattle.history.proofs.Held.{found_value, place_value}
 use Rattle.history.proofs.history.History.value_under.Goals as goal
@@ -7,10 +7,10 @@ pub returns-in-Some : goal.returns-in-Some
 returns-in-Some g c =
     let es = entries c.args.self.now in
     let cells = c.args.code.now.cells in
-    record { value = c.value-at.ensures.value ∙ ap (found_value cells es) c.in-Some.ensures.place ∙ place_value cells es c.args.object c.args.tag }
+    record { value = c.value_at.ensures.value ∙ ap (found_value cells es) c.in-Some.ensures.place ∙ place_value cells es c.args.object c.args.tag }
 
 pub returns-in-None : goal.returns-in-None
 returns-in-None g c =
     let es = entries c.args.self.now in
     let cells = c.args.code.now.cells in
-    record { value = c.zero-cells.ensures.value ∙ ap (found_value cells es) c.in-None.ensures.place ∙ place_value cells es c.args.object c.args.tag }
+    record { value = c.zero_cells.ensures.value ∙ ap (found_value cells es) c.in-None.ensures.place ∙ place_value cells es c.args.object c.args.tag }

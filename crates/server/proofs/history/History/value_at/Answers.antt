@@ -1,4 +1,4 @@
-use Rattle.std.proofs.Common.{◌≡◌, ◌<◌, ◌≤◌, length, vec_items, sym, ap, ◌∙◌, arith}
+use Rattle.std.proofs.Common.{◌<◌, ◌≤◌, length, vec_items, sym, ap, ◌∙◌, arith}
 use Rattle.std.proofs.lemmas.List.{length-map, get_or-map}
 use Rattle.rules.specs.Histories.{zero_record}
 use Rattle.server.specs.Entries.{entry, entries}
@@ -17,4 +17,4 @@ pub returns-else-at-len : goal.returns-else-at-len
 returns-else-at-len g c =
     let es = vec_items c.args.self.now.entries in
     let past : length (entries c.args.self.now) ≤ c.args.at = omega (arith, length-map es entry) in
-    record { value = c.zero-cells.ensures ∙ ap zero_record c.cells.ensures.counted ∙ value_past c.args.code.now.cells (entries c.args.self.now) c.args.at past }
+    record { value = c.zero_cells.ensures ∙ ap zero_record c.cells.ensures.counted ∙ value_past c.args.code.now.cells (entries c.args.self.now) c.args.at past }

@@ -1,4 +1,4 @@
-use Rattle.std.proofs.Common.{◌≡◌, ℕ, Option, sym, ap, ◌∙◌}
+use Rattle.std.proofs.Common.{ap, ◌∙◌}
 use Rattle.rules.specs.Histories.{zero_record}
 use Rattle.server.specs.Entries.{entries}
 use Rattle.server.proofs.Held.{found_value, place_value}
@@ -8,10 +8,10 @@ pub returns-in-Some : goal.returns-in-Some
 returns-in-Some g c =
     let es = entries c.args.self.now in
     let cells = c.args.code.now.cells in
-    record { value = c.value-at.ensures.value ∙ ap (found_value cells es) c.in-Some.ensures.place ∙ place_value cells es c.args.object c.args.tag }
+    record { value = c.value_at.ensures.value ∙ ap (found_value cells es) c.in-Some.ensures.place ∙ place_value cells es c.args.object c.args.tag }
 
 pub returns-in-None : goal.returns-in-None
 returns-in-None g c =
     let es = entries c.args.self.now in
     let cells = c.args.code.now.cells in
-    record { value = c.zero-cells.ensures ∙ ap zero_record c.cells.ensures.counted ∙ ap (found_value cells es) c.in-None.ensures.place ∙ place_value cells es c.args.object c.args.tag }
+    record { value = c.zero_cells.ensures ∙ ap zero_record c.cells.ensures.counted ∙ ap (found_value cells es) c.in-None.ensures.place ∙ place_value cells es c.args.object c.args.tag }

@@ -1,4 +1,4 @@
-use Rattle.std.proofs.Common.{◌≡◌, ◌<◌, ◌≤◌, map, length, vec_items, sym, ◌∙◌, arith}
+use Rattle.std.proofs.Common.{◌<◌, ◌≤◌, map, length, vec_items, sym, arith}
 use Rattle.std.proofs.lemmas.List.{length-map, get_or_past}
 use Rattle.rules.specs.State.{Free}
 use Rattle.server.specs.Readings.{read}

@@ -1,4 +1,4 @@
-use Rattle.std.proofs.Common.{◌≡◌, ℕ, sym, ap, ◌∙◌, arith}
+use Rattle.std.proofs.Common.{◌≡◌, ap, ◌∙◌, arith}
 use Rattle.terms.specs.Items.{items}
 use Rattle.rules.specs.State as rules
 use Rattle.rules.specs.Updates.{newer, overtaken}

@@ -1,4 +1,4 @@
-use Rattle.std.proofs.Common.{◌≡◌, ℕ, false, sym, refl, ap, ◌∙◌}
+use Rattle.std.proofs.Common.{ℕ, false, ap, ◌∙◌}
 use Rattle.rules.specs.State as rules
 use Rattle.rules.specs.Updates.{queued}
 use Rattle.server.specs.Servers.{server}
@@ -16,6 +16,6 @@ returns c =
     let ew = c.remove-write.ensures.removed in
     record {
       tag = ap (λ (u : rules.Waiting). u.tag) ew;
-      after = applied_is p (queued p rest) (server c.take-in.new.self) c.args.at w c.requires.room (ap (queued p) c.remove-write.ensures.rest) ew
-          (c.take-in.ensures ∙ ap (λ (n : ℕ). took_in (queued p rest) w.tag.server n false (record { object = w.object; tag = w.tag; value = w.value })) c.get-or-count.ensures.found);
+      after = applied_is p (queued p rest) (server c.take_in.new.self) c.args.at w c.requires.room (ap (queued p) c.remove-write.ensures.rest) ew
+          (c.take_in.ensures ∙ ap (λ (n : ℕ). took_in (queued p rest) w.tag.server n false (record { object = w.object; tag = w.tag; value = w.value })) c.get_or-count.ensures.found);
     }

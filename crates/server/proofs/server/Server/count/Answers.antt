@@ -1,6 +1,5 @@
 use Rattle.std.proofs.Common.{arith, length-set}
 use Rattle.terms.specs.Limits.{max_count}
-use Rattle.rules.specs.Updates.{counted}
 use Rattle.server.specs.Servers.{server}
 use Rattle.server.proofs.Words.{getD_upd, bounded_set}
 use Rattle.server.proofs.Parts.{counted_is}
@@ -15,9 +14,12 @@ returns c =
           (getD_upd p.clock c.args.j.number c.args.count 0 (omega (arith, c.args.j.within, p.count_each))) c.max-self.ensures;
     }
 
-pub invariant-of-self : goal.invariant-of-self
-invariant-of-self c =
-    let p = c.args.self.now in (
-      bounded_set p.clock c.args.j.number c.args.count max_count (omega (arith, c.args.j.within, p.count_each)) p.counts_in_range c.requires,
-      (simp length-set p.count_each, (p.own_each, (p.told_each, tt))),
-    )
+pub invariant_of-self : goal.invariant_of-self
+invariant_of-self c =
+    let p = c.args.self.now in
+    record {
+      counts_in_range = bounded_set p.clock c.args.j.number c.args.count max_count (omega (arith, c.args.j.within, p.count_each)) p.counts_in_range c.requires;
+      count_each = simp length-set p.count_each;
+      own_each = p.own_each;
+      told_each = p.told_each;
+    }

@@ -1,4 +1,4 @@
-use Rattle.std.proofs.Common.{◌≡◌, ◌∙◌}
+use Rattle.std.proofs.Common.{◌∙◌}
 use Rattle.server.specs.Entries.{entry}
 use Rattle.server.specs.Servers.{server}
 use Rattle.server.proofs.Steps.{took_is}

@@ -1,4 +1,4 @@
-use Rattle.std.proofs.Common.{◌≡◌, ℕ, Bool, ◌&&◌, get_or, sym, refl, ap, ◌∙◌, ap₂, arith}
+use Rattle.std.proofs.Common.{◌≡◌, ℕ, ◌&&◌, get_or, sym, ap, ◌∙◌, ap₂, arith}
 use Rattle.server.specs.Writes.{ready, write, fits_count}
 use Rattle.server.proofs.Words.{every_none, every_more}
 use Rattle.server.proofs.waiting.Waiting.is_ready.Goals as goal

@@ -1,4 +1,4 @@
-use Rattle.std.proofs.Common.{◌≡◌, suc, ◌≤◌, cond, ◌++◌, length, Some, None, sym, ap, ◌∙◌, ap₂, arith}
+use Rattle.std.proofs.Common.{suc, ◌≤◌, cond, ◌++◌, length, Some, None, sym, ap, ◌∙◌, ap₂, arith}
 use Rattle.std.proofs.lemmas.List.{append-nil, take_all, drop_all}
 use Rattle.std.proofs.lemmas.Bool.{le-ltb}
 use Rattle.rules.specs.Writing.{write_at}
