@@ -1,8 +1,9 @@
 // A code that was accepted at layout: a row of coefficients for each server.
-ghost use Rattle.std.specs.Prelude.{◌≡◌, ◌*◌, ◌≤◌, length};
+ghost use Rattle.std.specs.Prelude.{◌≡◌, ◌*◌, ◌≤◌, ⊤, length};
 ghost use Rattle.terms.specs.Items.{items};
 ghost use Rattle.terms.specs.Limits.{min_servers, max_servers, max_objects, max_cells};
 
+use std::alloc::AllocError;
 use terms::bounded::Bounded;
 use terms::limits::MAX_TABLE;
 
@@ -13,7 +14,6 @@ pub mod sizes;
 pub mod symbols;
 mod values;
 
-#[derive(Clone, Copy)]
 pub struct Code<F: Copy> {
     // The field, so that a code cannot be used over another.
     field: F,
@@ -29,4 +29,16 @@ pub struct Code<F: Copy> {
     ghost least_cells: { 1 ≤ cells },
     ghost most_cells: { cells ≤ max_cells },
     ghost whole: { length (items table) ≡ servers * objects },
+}
+
+impl<F: Copy> Copy for Code<F> {}
+
+impl<F: Copy> Clone for Code<F> {
+    ghost is_clone = { λ code copied. copied ≡ code };
+
+    ghost is_infallible = { λ _. ⊤ };
+
+    fn clone(&self) -> Result<Self, AllocError> {
+        Ok(*self)
+    }
 }

@@ -47,7 +47,7 @@ fn add_multiple<F: Field>(a: WideRow, f: u8, b: WideRow) -> WideRow
 // Adds a multiple of the row p to each other row, so that these are 0 at c.
 fn clear<F: Field>(rows: Wide, p: usize, c: usize) -> Wide
     requires { (p < 6) × (c < 6) }
-    ensures { Cleared F.arithmetic (λ i. F.arithmetic.minus (F.arithmetic.times (entry rows i c) (inverse (entry rows p c)))) rows result p }
+    ensures { Cleared F.arithmetic (λ i. F.arithmetic.minus (F.arithmetic.times (entry rows i c) (F.inverse (entry rows p c)))) rows result p }
 {
     let by = rows[p];
     let scale = F::inv(by[c]);

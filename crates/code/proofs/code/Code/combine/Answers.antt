@@ -15,7 +15,7 @@ loop-c-preserved g c =
     let so_far = items c.loop-c.symbol in
     let i = c.loop-c.c in
     let room : length so_far < 16 = omega (arith, ap length c.loop-c.invariant, length_listed i f, c.args.self.now.most_cells) in
-    c.push.ensures.added room ∙ listed_push so_far i f c.combine-cell.result c.loop-c.invariant c.combine-cell.ensures
+    c.push.ensures.added room ∙ listed_push so_far i f c.combine_cell.result c.loop-c.invariant c.combine_cell.ensures
 
 pub returns : goal.returns
 returns g c =

@@ -15,7 +15,7 @@ loop-x-preserved g c =
     let a = g.F.Field.arithmetic in
     let row = (meaning a c.args.self.now).coefficient c.args.server in
     let cell : ℕ → ℕ = λ x. get_or (value_at (map items c.args.values.now) x) c.args.c 0 in
-    c.add-sum.ensures.sum ∙ ap₂ a.plus c.loop-x.invariant (c.mul.ensures.product ∙ ap₂ a.times c.at.ensures c.cell-of.ensures)
+    c.add-sum.ensures.sum ∙ ap₂ a.plus c.loop-x.invariant (c.mul.ensures.product ∙ ap₂ a.times c.at.ensures c.cell_of.ensures)
     ∙ ap (λ (n : ℕ). dot a n row cell) (sym (add-one c.loop-x.x))
 
 pub returns : goal.returns

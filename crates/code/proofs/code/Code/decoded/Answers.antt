@@ -13,7 +13,7 @@ pub returns-in-None : goal.returns-in-None
 returns-in-None g c recovers =
     let code = c.args.self.now in
     c.in-None.ensures.exact
-    (rows_from_recovers (meaning g.F.Field.arithmetic code) g.met.F.Field.ring code.most_servers code.most_objects (member c.args.set.now) c.rows-of.result c.rows-of.ensures
+    (rows_from_recovers (meaning g.F.Field.arithmetic code) g.met.F.Field.ring code.most_servers code.most_objects (member c.args.set.now) c.rows_of.result c.rows_of.ensures
     c.args.object c.requires.object_within code.least_cells recovers)
 
 pub returns-in-Some : goal.returns-in-Some
@@ -23,7 +23,7 @@ returns-in-Some g c =
     let chosen = member c.args.set.now in
     let symbols = value_at (map items c.args.symbols.now) in
     subst (λ (v : List ℕ). Decoded meant chosen symbols c.args.object v) (sym c.weigh.ensures)
-    (decoded_by_rows meant g.met.F.Field.ring code.most_servers code.most_objects chosen c.rows-of.result c.rows-of.ensures
+    (decoded_by_rows meant g.met.F.Field.ring code.most_servers code.most_objects chosen c.rows_of.result c.rows_of.ensures
     c.args.object c.requires.object_within
     (known_below code.servers chosen c.requires.known (λ s h. get_or_past c.args.set.now.members s false (omega (arith, c.args.set.now.whole))))
     c.in-Some.factors c.in-Some.ensures.exact symbols)

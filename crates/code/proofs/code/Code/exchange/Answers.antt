@@ -17,12 +17,12 @@ loop-c-preserved g c =
     let so_far = items c.loop-c.turned in
     let i = c.loop-c.c in
     let room : length so_far < 16 = omega (arith, ap length c.loop-c.invariant, length_listed i f, c.args.self.now.most_cells) in
-    let is : c.turned-cell.result ≡ f i =
-    c.turned-cell.ensures
-    ∙ ap₂ (λ (u v : ℕ). a.plus u (a.times c.at-coefficient.result v)) c.get-or-cell.ensures.found
-    (ap₂ (λ (u v : ℕ). a.plus u (a.minus v)) c.get-or-after.ensures.found c.get-or-before.ensures.found)
+    let is : c.turned_cell.result ≡ f i =
+    c.turned_cell.ensures
+    ∙ ap₂ (λ (u v : ℕ). a.plus u (a.times c.at-coefficient.result v)) c.get_or-cell.ensures.found
+    (ap₂ (λ (u v : ℕ). a.plus u (a.minus v)) c.get_or-after.ensures.found c.get_or-before.ensures.found)
     ∙ ap (λ (k : ℕ). a.plus (get_or (items c.args.symbol.now) i 0) (a.times k (a.plus (get_or (items c.args.new.now) i 0) (a.minus (get_or (items c.args.old.now) i 0))))) c.at-coefficient.ensures in
-    c.push.ensures.added room ∙ listed_push so_far i f c.turned-cell.result c.loop-c.invariant is
+    c.push.ensures.added room ∙ listed_push so_far i f c.turned_cell.result c.loop-c.invariant is
 
 pub returns : goal.returns
 returns g c =

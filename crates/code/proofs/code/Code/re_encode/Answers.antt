@@ -17,5 +17,5 @@ returns g c =
       re_encoded_or_refused = search rules;
       turns_the_symbol = subst (λ (v : List ℕ). Turned meant a.server a.object before old new v) (sym c.exchange.ensures)
           (turned meant g.met.F.Field.ring a.server a.object c.if-object-self.false new
-          (not_refused meant 3 (before ∷ old ∷ new ∷ []) (sym c.in-default.ensures) 2 (lit< tt)) before old);
+          (not_refused meant 3 (before ∷ old ∷ new ∷ []) (sym c.in_default.ensures) 2 (lit< tt)) before old);
     }

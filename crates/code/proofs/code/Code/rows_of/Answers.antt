@@ -15,7 +15,7 @@ loop-s-preserved g c =
     let low : s < 6 = omega (arith, c.args.self.now.most_servers) in
     elim c.if-has.branch [
       | then-has w ↦
-          subst After (sym w.rows-is) (choosing_more c.loop-s.invariant w.row-of.result low (sym w.if-has.ensures.told) w.row-of.ensures)
+          subst After (sym w.rows-is) (choosing_more c.loop-s.invariant w.row_of.result low (sym w.if-has.ensures.told) w.row_of.ensures)
       | else-has w ↦ subst After (sym w.rows-is) (choosing_skip c.loop-s.invariant (sym w.if-has.ensures.told))
     ]
 

@@ -17,7 +17,7 @@ loop-c-preserved g c =
     let so_far = items c.loop-c.value in
     let i = c.loop-c.c in
     let room : length so_far < 16 = omega (arith, ap length c.loop-c.invariant, length_listed i f, c.args.self.now.most_cells) in
-    c.push.ensures.added room ∙ listed_push so_far i f c.weigh-cell.result c.loop-c.invariant c.weigh-cell.ensures
+    c.push.ensures.added room ∙ listed_push so_far i f c.weigh_cell.result c.loop-c.invariant c.weigh_cell.ensures
 
 pub returns : goal.returns
 returns g c =

@@ -10,4 +10,4 @@ loop-s-init c = sym (every_none (λ s. not (member c.args.set.now s) || ltb s c.
 pub loop-s-preserved : goal.loop-s-preserved
 loop-s-preserved c =
     let f : ℕ → Bool = λ s. not (member c.args.set.now s) || ltb s c.args.n in
-    ap₂ ◌&&◌ c.loop-s.invariant c.out-or-below-all.ensures ∙ sym (every_more c.loop-s.s f)
+    ap₂ ◌&&◌ c.loop-s.invariant c.out_or_below-all.ensures ∙ sym (every_more c.loop-s.s f)

@@ -16,7 +16,7 @@ loop-s-preserved g c =
     let a = g.F.Field.arithmetic in
     let weights : ℕ → ℕ = λ s. get_or c.args.factors s 0 in
     let cells : ℕ → ℕ = shown (member c.args.set.now) (value_at (map items c.args.symbols.now)) c.args.c in
-    c.add-sum.ensures.sum ∙ ap₂ a.plus c.loop-s.invariant (c.mul.ensures.product ∙ ap (a.times (weights c.loop-s.s)) c.shown-cell.ensures)
+    c.add-sum.ensures.sum ∙ ap₂ a.plus c.loop-s.invariant (c.mul.ensures.product ∙ ap (a.times (weights c.loop-s.s)) c.shown_cell.ensures)
     ∙ ap (λ (n : ℕ). dot a n weights cells) (sym (add-one c.loop-s.s))
 
 pub returns : goal.returns

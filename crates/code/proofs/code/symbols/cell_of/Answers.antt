@@ -7,7 +7,7 @@ pub returns-then-x-values : goal.returns-then-x-values
 returns-then-x-values c =
     let vs = c.args.values.now in
     let v = c.index-values-x.result in
-    c.get-or.ensures.found
+    c.get_or.ensures.found
     ∙ ap (λ (w : List ℕ). get_or w c.args.c 0) (ap items c.index-values-x.is ∙ sym (get_or-map items vs c.args.x v [] c.if-x-values.true))
 
 pub returns-else-x-values : goal.returns-else-x-values

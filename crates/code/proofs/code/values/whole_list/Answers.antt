@@ -8,7 +8,7 @@ pub returns-then-values-n : goal.returns-then-values-n
 returns-then-values-n c =
     let vs = c.args.values.now in
     let n = c.args.n in
-    c.all-long.ensures ∙ sym (ap (λ (b : Bool). b && all_long c.args.w (map items vs)) (eq-eqb (length (map items vs)) n (length-map vs items ∙ c.if-values-n.true)))
+    c.all_long.ensures ∙ sym (ap (λ (b : Bool). b && all_long c.args.w (map items vs)) (eq-eqb (length (map items vs)) n (length-map vs items ∙ c.if-values-n.true)))
 
 pub returns-else-values-n : goal.returns-else-values-n
 returns-else-values-n c =
