@@ -18,7 +18,7 @@ pub fn apply<F: Field + Copy, C: Carrier>(
     carrier: &C,
     server: usize,
 ) -> Result<Option<Tag>, Refusal>
-    ensures step { Took (layout F.arithmetic group.old (p carrier.now)) (nat_le group.old.code.servers (n carrier.now)) (state group.old (lanes carrier.now)) (Apply server) (apply_told result) (state group.new (lanes carrier.now)) }
+    ensures step { Took (layout F.arithmetic group.old (C.p carrier.now)) (nat_le group.old.code.servers (C.n carrier.now)) (state group.old (C.lanes carrier.now)) (Apply server) (apply_told result) (state group.new (C.lanes carrier.now)) }
     ensures same_code { group.new.code ≡ group.old.code }
 {
     reach(group, carrier, server)?;

@@ -37,11 +37,11 @@ fn ends_of<F: Field + Copy, C: Carrier>(
     from: usize,
     to: usize,
 ) -> Result<Ends, Refusal>
-    ensures answer { Answered (beside (nat_le group.now.code.servers (n carrier.now)) (lane_refusal (layout F.arithmetic group.now (p carrier.now)) from to)) (λ e. (e.from.number ≡ from) × (e.to.number ≡ to)) result }
+    ensures answer { Answered (beside (nat_le group.now.code.servers (C.n carrier.now)) (lane_refusal (layout F.arithmetic group.now (C.p carrier.now)) from to)) (λ e. (e.from.number ≡ from) × (e.to.number ≡ to)) result }
     ensures from_within { OnOk result (from < group.now.code.servers) }
     ensures to_within { OnOk result (to < group.now.code.servers) }
     ensures apart { OnOk result (from ≢ to) }
-    ensures carried { OnOk result (group.now.code.servers ≤ n carrier.now) }
+    ensures carried { OnOk result (group.now.code.servers ≤ C.n carrier.now) }
 {
     let servers = group.code.servers();
     if carrier.servers() < servers || from >= servers || to >= servers {
@@ -58,15 +58,15 @@ fn ends_of<F: Field + Copy, C: Carrier>(
 
 // Takes the oldest message of a lane, and posts the reply, if there is one, to the lane back.
 fn hand_over<C: Carrier>(carrier: &mut C, from: usize, to: usize, reply: Option<Message>)
-    requires from_within { from < n carrier.old }
-    requires to_within { to < n carrier.old }
+    requires from_within { from < C.n carrier.old }
+    requires to_within { to < C.n carrier.old }
     requires apart { from ≢ to }
-    requires some { empty_refusal (lanes carrier.old from to) ≡ None }
-    requires room { HasRoom (option_map meaning reply) (nat_lt (length (lanes carrier.old to from)) (p carrier.old)) }
+    requires some { empty_refusal (C.lanes carrier.old from to) ≡ None }
+    requires room { HasRoom (option_map meaning reply) (nat_lt (length (C.lanes carrier.old to from)) (C.p carrier.old)) }
     requires range { Sendable reply }
-    ensures lanes_after { lanes carrier.new ≡ answered_lanes (lanes carrier.old) from to (option_map meaning reply) }
-    ensures same_servers { n carrier.new ≡ n carrier.old }
-    ensures same_places { p carrier.new ≡ p carrier.old }
+    ensures lanes_after { C.lanes carrier.new ≡ answered_lanes (C.lanes carrier.old) from to (option_map meaning reply) }
+    ensures same_servers { C.n carrier.new ≡ C.n carrier.old }
+    ensures same_places { C.p carrier.new ≡ C.p carrier.old }
 {
     let _ = carrier.take(from, to);
     if let Some(message) = reply {
@@ -81,10 +81,10 @@ pub fn deliver<F: Field + Copy, C: Carrier>(
     from: usize,
     to: usize,
 ) -> Result<Delivered, Refusal>
-    ensures step { Took (layout F.arithmetic group.old (p carrier.old)) (nat_le group.old.code.servers (n carrier.old)) (state group.old (lanes carrier.old)) (Deliver from to) (deliver_told result) (state group.new (lanes carrier.new)) }
+    ensures step { Took (layout F.arithmetic group.old (C.p carrier.old)) (nat_le group.old.code.servers (C.n carrier.old)) (state group.old (C.lanes carrier.old)) (Deliver from to) (deliver_told result) (state group.new (C.lanes carrier.new)) }
     ensures same_code { group.new.code ≡ group.old.code }
-    ensures same_servers { n carrier.new ≡ n carrier.old }
-    ensures same_places { p carrier.new ≡ p carrier.old }
+    ensures same_servers { C.n carrier.new ≡ C.n carrier.old }
+    ensures same_places { C.p carrier.new ≡ C.p carrier.old }
 {
     let ends = ends_of(group, carrier, from, to)?;
     let message = carrier.first(from, to)?;

@@ -24,9 +24,9 @@ pub(crate) fn reach<F: Field + Copy, C: Carrier>(
     carrier: &C,
     server: usize,
 ) -> Result<ServerNumber, Refusal>
-    ensures answer { Answered (beside (nat_le group.now.code.servers (n carrier.now)) (server_why (layout F.arithmetic group.now (p carrier.now)) server)) (λ k. k.number ≡ server) result }
+    ensures answer { Answered (beside (nat_le group.now.code.servers (C.n carrier.now)) (server_why (layout F.arithmetic group.now (C.p carrier.now)) server)) (λ k. k.number ≡ server) result }
     ensures within { OnOk result (server < group.now.code.servers) }
-    ensures carried { OnOk result (group.now.code.servers ≤ n carrier.now) }
+    ensures carried { OnOk result (group.now.code.servers ≤ C.n carrier.now) }
 {
     if carrier.servers() < group.code.servers() {
         return Err(Refusal::NoSuchServer);
@@ -47,9 +47,9 @@ pub(crate) fn take_aim<F: Field + Copy, C: Carrier>(
     server: usize,
     object: usize,
 ) -> Result<Aim, Refusal>
-    ensures answer { Answered (beside (nat_le group.now.code.servers (n carrier.now)) (object_why (layout F.arithmetic group.now (p carrier.now)) server object)) (λ a. (a.server.number ≡ server) × (a.object.number ≡ object)) result }
+    ensures answer { Answered (beside (nat_le group.now.code.servers (C.n carrier.now)) (object_why (layout F.arithmetic group.now (C.p carrier.now)) server object)) (λ a. (a.server.number ≡ server) × (a.object.number ≡ object)) result }
     ensures within { OnOk result (server < group.now.code.servers) }
-    ensures carried { OnOk result (group.now.code.servers ≤ n carrier.now) }
+    ensures carried { OnOk result (group.now.code.servers ≤ C.n carrier.now) }
 {
     let server = reach(group, carrier, server)?;
     if object >= group.code.objects() {

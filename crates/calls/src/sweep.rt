@@ -18,7 +18,7 @@ pub fn sweep<F: Field + Copy, C: Carrier>(
     server: usize,
     object: usize,
 ) -> Result<usize, Refusal>
-    ensures step { Took (layout F.arithmetic group.old (p carrier.now)) (nat_le group.old.code.servers (n carrier.now)) (state group.old (lanes carrier.now)) (Sweep server object) (sweep_told result) (state group.new (lanes carrier.now)) }
+    ensures step { Took (layout F.arithmetic group.old (C.p carrier.now)) (nat_le group.old.code.servers (C.n carrier.now)) (state group.old (C.lanes carrier.now)) (Sweep server object) (sweep_told result) (state group.new (C.lanes carrier.now)) }
     ensures same_code { group.new.code ≡ group.old.code }
 {
     let aim = take_aim(group, carrier, server, object)?;

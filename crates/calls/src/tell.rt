@@ -18,12 +18,12 @@ pub(crate) fn tell_all<C: Carrier>(
     news: Option<Message>,
 )
     requires from_within { from < servers }
-    requires carried { servers ≤ n carrier.old }
-    requires room { HasRoom (option_map meaning news) (free (p carrier.old) (lanes carrier.old) from servers) }
+    requires carried { servers ≤ C.n carrier.old }
+    requires room { HasRoom (option_map meaning news) (free (C.p carrier.old) (C.lanes carrier.old) from servers) }
     requires range { Sendable news }
-    ensures lanes_after { lanes carrier.new ≡ spread_news (lanes carrier.old) from servers (option_map meaning news) }
-    ensures same_servers { n carrier.new ≡ n carrier.old }
-    ensures same_places { p carrier.new ≡ p carrier.old }
+    ensures lanes_after { C.lanes carrier.new ≡ spread_news (C.lanes carrier.old) from servers (option_map meaning news) }
+    ensures same_servers { C.n carrier.new ≡ C.n carrier.old }
+    ensures same_places { C.p carrier.new ≡ C.p carrier.old }
 {
     if let Some(message) = news {
         post_all(carrier, from, servers, message);

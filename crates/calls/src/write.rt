@@ -24,10 +24,10 @@ pub fn write<F: Field + Copy, C: Carrier>(
     object: usize,
     value: &[u8],
 ) -> Result<Tag, Refusal>
-    ensures step { Took (layout F.arithmetic group.old (p carrier.old)) (nat_le group.old.code.servers (n carrier.old)) (state group.old (lanes carrier.old)) (Write server object value.now) (write_told result) (state group.new (lanes carrier.new)) }
+    ensures step { Took (layout F.arithmetic group.old (C.p carrier.old)) (nat_le group.old.code.servers (C.n carrier.old)) (state group.old (C.lanes carrier.old)) (Write server object value.now) (write_told result) (state group.new (C.lanes carrier.new)) }
     ensures same_code { group.new.code ≡ group.old.code }
-    ensures same_servers { n carrier.new ≡ n carrier.old }
-    ensures same_places { p carrier.new ≡ p carrier.old }
+    ensures same_servers { C.n carrier.new ≡ C.n carrier.old }
+    ensures same_places { C.p carrier.new ≡ C.p carrier.old }
 {
     let aim = take_aim(group, carrier, server, object)?;
     let value = value_of(group, value)?;

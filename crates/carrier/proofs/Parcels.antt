@@ -1,12 +1,12 @@
 -- A message put into a place of bytes. Assumes nothing.
-use Rattle.std.proofs.Common.{◌≡◌, ℕ, ◌+◌, ◌≤◌, Bool, true, false, cond, ltb, List, ◌++◌, length, drop, is_ok, Some, None, Ok, Err, Option, Result, sym, refl, ap, ◌∙◌, ⊎_elim, arith}
+use Rattle.std.proofs.Common.{◌≡◌, ℕ, ◌≤◌, true, cond, List, length, drop, is_ok, None, Ok, Err, Result, sym, ap, ◌∙◌, ⊎_elim, arith}
 use Rattle.std.proofs.lemmas.Bool.{cases_Bool, le-ltb, cond-true, cond-false}
 use Rattle.terms.specs.declared.refusal.Refusal.{Refusal}
 use Rattle.terms.specs.declared.refusal.Refusal.TheVariants.{OutOfRange}
 use Rattle.terms.specs.Limits.{max_record_bytes}
 use Rattle.message.specs.Meanings.{Meaning}
 use Rattle.message.specs.Ranges.{in_range}
-use Rattle.wire.specs.Placed.{Placed, write_refusal, room_refusal}
+use Rattle.wire.specs.Placed.{Placed, write_refusal}
 use Rattle.wire.specs.Reading.{reading}
 use Rattle.wire.specs.Writing.{encode}
 use Rattle.wire.proofs.Whole.{reading_there, short}

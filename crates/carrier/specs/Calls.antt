@@ -1,5 +1,5 @@
 -- The calls of a carrier of blocks, once a lane's number is found. Assumes nothing.
-use Rattle.std.specs.Prelude.{◌≡◌, ℕ, zero, suc, ◌+◌, ◌-◌, ◌*◌, ◌<◌, ◌≤◌, Bool, true, false, cond, not, ◌&&◌, List, [], ◌∷◌, ◌++◌, map, length, get_or, take, drop, set, replicate, Some, None, vec_items, vec_len, Option, ◌==◌, ◌≢◌, nat_lt, slice_index, slice_index_or, slice_set, refl}
+use Rattle.std.specs.Prelude.{◌≡◌, ℕ, zero, suc, ◌+◌, ◌-◌, ◌*◌, ◌<◌, ◌≤◌, Bool, true, false, cond, not, ◌&&◌, List, [], ◌∷◌, ◌++◌, map, length, get_or, take, drop, replicate, Some, None, vec_items, vec_len, Option, ◌==◌, ◌≢◌, nat_lt, slice_index, slice_index_or, slice_set, refl}
 use Rattle.std.proofs.Common.{sym, ap, subst, ◌∙◌, ⊎_elim, arith, length-take}
 use Rattle.std.proofs.lemmas.List.{get_or-set_same, get_or-set_other, nil_from_length, length-map}
 use Rattle.std.proofs.lemmas.Bool.{cases_eq, cond-true, cond-false, le-ltb, lt-ltb, le-leb, and_from}
@@ -9,7 +9,7 @@ use Rattle.terms.specs.Limits.{min_servers, max_servers, min_places, max_places}
 use Rattle.message.specs.Meanings.{Meaning}
 use Rattle.message.specs.Ranges.{in_range}
 use Rattle.carrier.specs.declared.blocks.Blocks.{Blocks}
-use Rattle.carrier.specs.Lanes.{Lanes, with_lane, or_else, unless, ends_refusal, room_refusal, range_refusal, empty_refusal, post_refusal, take_refusal, posted, taken}
+use Rattle.carrier.specs.Lanes.{Lanes, with_lane, or_else, unless, ends_refusal, range_refusal, empty_refusal, post_refusal, take_refusal, posted, taken}
 use Rattle.carrier.specs.Blocks.{lane_number, lanes_over, lanes_of, Found}
 use Rattle.carrier.specs.Laid.{layout_refusal}
 use Rattle.carrier.specs.Changes as changes

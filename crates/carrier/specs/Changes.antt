@@ -8,7 +8,7 @@ use Rattle.std.proofs.lemmas.Bool.{cases_Bool, cond-true, cond-false, and_from, 
 use Rattle.terms.specs.declared.refusal.Refusal.{Refusal}
 use Rattle.message.specs.Meanings.{Meaning}
 use Rattle.carrier.specs.Lanes.{Lanes, with_lane, ends_refusal}
-use Rattle.carrier.specs.Blocks.{lane_number, is_lane, block, lanes_over, Found}
+use Rattle.carrier.specs.Blocks.{lane_number, is_lane, lanes_over, Found}
 use Rattle.carrier.specs.Places.{Outside, apart, same_lane}
 
 pub some_none : {X : Type 0} (x : X) → Some x ≢ None

@@ -7,10 +7,9 @@ use terms::limits::MAX_RECORD_BYTES;
 
 pub mod bytes;
 
+#[derive(Clone, Copy)]
 pub struct Parcel {
     bytes: [u8; MAX_RECORD_BYTES],
     ghost whole: { length bytes ≡ max_record_bytes },
     ghost record_inside: { is_record bytes ≡ true },
 }
-
-impl Copy for Parcel {}

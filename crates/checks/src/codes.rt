@@ -73,7 +73,7 @@ fn symbols_of_two_cells(rt: HostRuntime) -> Result<(), Fail> {
     let code = Code::new(Mod251, 3, 2, 2, &[1, 0, 0, 1, 1, 250])?;
     let values = [cells(&[100, 250]), cells(&[200, 1])];
     let symbol = code.symbol(2, &values)?;
-    assert!(rt; symbol.as_slice() == [151, 249]);
+    assert!(rt; symbol.as_slice() == [151, 249].as_slice());
     assert_eq!(rt; code.contains(0, 1)?, false);
     assert_eq!(rt; code.contains(2, 1)?, true);
     assert_eq!(rt; code.coefficient(2, 1)?, 250);

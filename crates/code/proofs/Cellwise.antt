@@ -1,15 +1,15 @@
 -- Recovery of values by the rows of a set: cell by cell, values of all cells are unknowns of a matrix. Assumes nothing.
-use Rattle.std.proofs.Common.{◌≡◌, ℕ, ◌<◌, ◌≤◌, Bool, true, false, cond, ltb, ◌⊎◌, List, length, get_or, Decides, sym, refl, ap, ◌∙◌, subst, inl, inr, arith, le-ltb, lt-ltb}
+use Rattle.std.proofs.Common.{◌≡◌, ℕ, ◌<◌, ◌≤◌, Bool, true, cond, ltb, ◌⊎◌, List, get_or, Decides, sym, ap, ◌∙◌, subst, inl, inr, arith, le-ltb, lt-ltb}
 use borrow.Author.Tests.{both_ways}
 use Rattle.std.proofs.lemmas.Bool.{cases_lt, cases_Bool}
 use Rattle.terms.specs.Lists.{listed}
 use Rattle.terms.proofs.Listed.{length_listed, listed_at, listed_same, same_by_places}
 use Rattle.field.specs.Laws.{Ring}
-use Rattle.field.specs.Sums.{sum, dot, Below}
+use Rattle.field.specs.Sums.{dot}
 use Rattle.field.proofs.Algebra as algebra
 use Rattle.matrix.specs.Matrices.{entry, row_sum, Unknowns, Determines, Solves}
 use Rattle.code.specs.Chosen.{ChosenRow, ChosenRows, shown, weighed}
-use Rattle.code.specs.Codings.{Coding, Value, Values, combination, symbol}
+use Rattle.code.specs.Codings.{Coding, Values, combination, symbol}
 use Rattle.code.specs.Recovery.{Recovers, Decoded}
 
 module _ (g : Coding) (R : Ring g.arithmetic) (few : g.servers ≤ 6) (narrow : g.objects ≤ 6) (set : ℕ → Bool) (m : List (List ℕ)) (C : ChosenRows g set m) where

@@ -1,5 +1,5 @@
 -- All servers, as a set of a code. Assumes nothing.
-use Rattle.std.proofs.Common.{◌≡◌, ℕ, ◌<◌, ◌≤◌, Bool, true, ltb, sym, refl, ◌∙◌, arith, lt-ltb}
+use Rattle.std.proofs.Common.{◌≡◌, ℕ, ◌<◌, ◌≤◌, Bool, true, ltb, refl, ◌∙◌, arith, lt-ltb}
 use Rattle.code.specs.Codings.{Coding}
 use Rattle.code.specs.Layout.{everyone}
 use Rattle.code.specs.Recovery.{Recovers}

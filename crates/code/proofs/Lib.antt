@@ -1,3 +1,4 @@
+pub mod Alone
 pub mod Cellwise
 pub mod Choosing
 pub mod Everyone

@@ -1,10 +1,9 @@
 -- Re-encoding turns the symbol of the old values into that of the new. Assumes nothing.
-use Rattle.std.proofs.Common.{◌≡◌, ℕ, ◌<◌, Bool, true, false, cond, eqb, List, length, get_or, sym, refl, ap, ◌∙◌, subst, ap₂, eq-eqb, ne_eqb}
+use Rattle.std.proofs.Common.{◌≡◌, ℕ, ◌<◌, Bool, cond, List, get_or, sym, refl, ap, ◌∙◌, ap₂, eq-eqb, ne_eqb}
 use Rattle.terms.proofs.Listed.{listed_at, listed_same}
 use Rattle.field.specs.Laws.{Ring}
-use Rattle.field.specs.Sums.{sum, dot}
 use Rattle.field.proofs.Algebra as algebra
-use Rattle.code.specs.Codings.{Coding, Value, Values, combination, symbol, re_encoded, re_encoded_cell, replaced, Turned}
+use Rattle.code.specs.Codings.{Coding, Value, Values, combination, re_encoded, re_encoded_cell, replaced, Turned}
 
 module _ (g : Coding) (R : Ring g.arithmetic) (s x : ℕ) (within : x < g.objects) (new : List ℕ) (N : Value g new) where
   replaced_here : (v : ℕ → List ℕ) → replaced v x new x ≡ new

@@ -1,7 +1,5 @@
 -- What it tells that values are not refused. Assumes nothing.
-use Rattle.std.proofs.Common.{◌≡◌, ℕ, ◌<◌, Bool, true, false, cond, ◌&&◌, eqb, ltb, List, [], length, get_or, Some, None, Option, sym, refl, ap, ◌∙◌, arith, ltb-true, eqb-true}
-use Rattle.terms.specs.declared.refusal.Refusal.{Refusal}
-use Rattle.terms.specs.Answers.{unless}
+use Rattle.std.proofs.Common.{◌≡◌, ℕ, ◌<◌, Bool, ◌&&◌, eqb, ltb, List, [], length, get_or, None, arith, ltb-true, eqb-true}
 use Rattle.terms.proofs.Each.{each_at}
 use Rattle.terms.proofs.Tests.{and_left, and_right}
 use Rattle.code.specs.Codings.{Coding, Value, value_at}

@@ -1,5 +1,5 @@
 -- The rows and the symbols of a set of servers, with 0 for all others. Assumes nothing.
-use Rattle.std.specs.Prelude.{◌≡◌, ℕ, ◌<◌, ◌≤◌, Bool, true, false, cond, List, slice_index}
+use Rattle.std.specs.Prelude.{◌≡◌, ℕ, ◌<◌, ◌≤◌, Bool, true, cond, List, slice_index}
 use Rattle.terms.specs.Lists.{listed}
 use Rattle.field.specs.Sums.{dot}
 use Rattle.matrix.specs.Matrices.{entry}

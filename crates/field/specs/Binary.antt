@@ -1,5 +1,5 @@
 -- Bytes as polynomials over bits, modulo the one whose bits are hexadecimal 11D: x^8 + x^4 + x^3 + x^2 + 1. Assumes nothing.
-use Rattle.std.specs.Prelude.{ℕ, zero, suc, ◌+◌, ◌-◌, ◌*◌, ◌/◌, ◌%◌, bit_xor}
+use Rattle.std.specs.Prelude.{ℕ, zero, suc, ◌*◌, ◌/◌, ◌%◌, bit_xor}
 use Rattle.field.specs.Arithmetic.{Arithmetic}
 use Rattle.field.specs.Total.{total₁, total₂}
 

@@ -1,6 +1,6 @@
 -- Inverses modulo 251: a test at each number, that antt computes. Assumes nothing.
-use Rattle.std.specs.Prelude.{◌≡◌, ℕ, zero, suc, ◌+◌, ◌-◌, ◌*◌, ◌/◌, ◌%◌, ◌^◌, ◌<◌, ◌≤◌, Bool, true, false, ◌||◌, ◌==◌, refl}
-use Rattle.std.proofs.Common.{sym, ap, subst, ◌∙◌, mod-lt, arith, lit<, eqb-true, ne_eqb}
+use Rattle.std.specs.Prelude.{◌≡◌, ℕ, ◌*◌, ◌%◌, ◌^◌, ◌<◌, Bool, true, false, ◌||◌, ◌==◌, refl}
+use Rattle.std.proofs.Common.{sym, ap, ◌∙◌, mod-lt, lit<, eqb-true, ne_eqb}
 use Rattle.field.specs.Modular.{modulo, inverse_modulo}
 use Rattle.field.specs.Laws.{Inverses}
 use Rattle.field.specs.Totals.{in₁, in₂, past₁, below₁}

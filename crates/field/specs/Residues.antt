@@ -1,6 +1,6 @@
 -- Whole numbers modulo m, from 2 to 256, are a ring. Assumes nothing.
-use Rattle.std.specs.Prelude.{◌≡◌, ℕ, zero, suc, ◌+◌, ◌-◌, ◌*◌, ◌/◌, ◌%◌, ◌<◌, ◌≤◌, refl}
-use Rattle.std.proofs.Common.{sym, ap, subst, ◌∙◌, add_comm, add_assoc, add-zero, mul_comm, mul_assoc, mul-one, mul-add, mod-lt, mod-eq_of_lt, add-mul, arith}
+use Rattle.std.specs.Prelude.{◌≡◌, ℕ, ◌+◌, ◌-◌, ◌*◌, ◌/◌, ◌%◌, ◌<◌, ◌≤◌}
+use Rattle.std.proofs.Common.{sym, ap, ◌∙◌, add_comm, add_assoc, add-zero, mul_comm, mul_assoc, mul-one, mul-add, mod-lt, mod-eq_of_lt, add-mul, arith}
 use Rattle.std.proofs.Math.Nat.{mod_self, add-mod-mod, mod-add-mod, add-mod, mod-add-div, add-mul-mod_self_left}
 use Rattle.field.specs.Modular.{modulo}
 use Rattle.field.specs.Laws.{Ring}

@@ -1,16 +1,15 @@
 -- The figures of fields and codes. Assumes nothing.
-use Rattle.std.proofs.Common.{◌≡◌, ℕ, zero, suc, ◌<◌, Bool, true, false, ◌||◌, eqb, ◌⊎◌, List, [], ◌∷◌, length, get_or, sym, refl, ap, ◌∙◌, subst, ap₂, inl, inr, arith, lit<, lit≤, eqb-true}
+use Rattle.std.proofs.Common.{◌≡◌, ℕ, zero, suc, ◌<◌, Bool, true, false, ◌||◌, eqb, ◌⊎◌, List, [], ◌∷◌, get_or, sym, refl, ap, ◌∙◌, subst, inl, inr, arith, lit<, lit≤, eqb-true}
 use Rattle.std.proofs.lemmas.Bool.{cases_Bool}
 use Rattle.terms.specs.Sets.{among}
-use Rattle.terms.proofs.Listed.{same_by_places, listed_at}
-use Rattle.field.specs.Arithmetic.{Arithmetic}
+use Rattle.terms.proofs.Listed.{same_by_places}
 use Rattle.field.specs.Laws.{Ring}
-use Rattle.field.specs.Sums.{sum, dot}
+use Rattle.field.specs.Sums.{sum}
 use Rattle.field.specs.Modular.{modulo, inverse_modulo}
 use Rattle.field.specs.Binary.{gf256, double, partial}
 use Rattle.field.proofs.Algebra as algebra
 use Rattle.field.specs.Residues as residues
-use Rattle.code.specs.Codings.{Coding, Value, Values, combination, symbol, value_at}
+use Rattle.code.specs.Codings.{Value, Values, combination, symbol, value_at}
 use Rattle.code.specs.Recovery.{Recovers}
 use Rattle.figures.specs.Figures.{five_by_three, three_values}
 

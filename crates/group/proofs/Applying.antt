@@ -1,11 +1,10 @@
 -- Apply, from what its server does. Assumes nothing.
-use Rattle.std.proofs.Common.{◌≡◌, ℕ, ◌<◌, ◌≤◌, Bool, true, false, cond, ◌&&◌, ltb, leb, length, Some, None, Ok, Err, Option, Result, sym, refl, ap, ◌∙◌, ap₂}
-use Rattle.std.proofs.lemmas.Bool.{lt-ltb}
+use Rattle.std.proofs.Common.{◌≡◌, ℕ, Bool, true, false, cond, ◌&&◌, ltb, length, Some, None, Ok, Err, Option, Result, sym, refl, ap, ◌∙◌}
 use Rattle.terms.specs.declared.refusal.Refusal.{Refusal}
 use Rattle.terms.specs.declared.refusal.Refusal.TheVariants.{NoSuchServer, HistoryFull}
 use Rattle.message.specs.declared.tag.Tag.{Tag}
 use Rattle.rules.specs.State.{Layout, State, Server}
-use Rattle.rules.specs.Turns.{Turn, turn, check, unless, Answer, Tagged, NothingReady, Refused}
+use Rattle.rules.specs.Turns.{Turn, turn, check, unless, Tagged, Refused}
 use Rattle.rules.specs.Writing.{put, apply, apply_at, apply_done, next_ready, write_at, without}
 use Rattle.rules.specs.Updates.{queued}
 use Rattle.server.specs.Steps.{has_room, taken_in, applied, apply_answer, apply_after, chosen}

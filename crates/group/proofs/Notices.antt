@@ -1,5 +1,5 @@
 -- A write notice is within the ranges of messages. Assumes nothing.
-use Rattle.std.proofs.Common.{◌≡◌, ℕ, zero, suc, ◌+◌, ◌<◌, ◌≤◌, Bool, true, false, ◌&&◌, ltb, leb, List, [], ◌∷◌, length, get_or, is_ok, Some, None, Ok, Err, Option, Result, sym, refl, ap, ◌∙◌, subst, ap₂, arith}
+use Rattle.std.proofs.Common.{◌≡◌, ℕ, suc, ◌<◌, ◌≤◌, Bool, true, false, ◌&&◌, ltb, List, [], ◌∷◌, length, get_or, is_ok, None, Ok, Err, Option, Result, refl, ap, ◌∙◌, subst, ap₂, arith}
 use Rattle.std.proofs.lemmas.Bool.{le-leb, ltb-true}
 use Rattle.terms.specs.Answers.{Answered}
 use Rattle.terms.specs.Limits.{max_count, max_height}
@@ -7,8 +7,6 @@ use Rattle.terms.specs.Lists.{each, listed}
 use Rattle.terms.specs.declared.refusal.Refusal.{Refusal}
 use Rattle.terms.specs.declared.refusal.Refusal.TheVariants.{NumbersUsedUp, HistoryFull}
 use Rattle.terms.proofs.Listed.{length_listed, listed_at}
-use Rattle.terms.proofs.Tests.{and_right}
-use Rattle.message.specs.declared.tag.Tag.{Tag}
 use Rattle.message.specs.Meanings.{write_notice}
 use Rattle.message.specs.Ranges.{between, in_range, count_ok}
 use Rattle.rules.specs.State.{Server}

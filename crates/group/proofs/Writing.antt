@@ -3,11 +3,11 @@ use Rattle.std.proofs.Common.{◌≡◌, ℕ, Bool, true, false, ◌&&◌, eqb, 
 use Rattle.std.proofs.lemmas.Bool.{ltb-true, leb-true, eqb-true}
 use Rattle.terms.proofs.Tests.{and_left, and_right}
 use Rattle.message.specs.declared.tag.Tag.{Tag}
-use Rattle.terms.specs.Limits.{max_count, max_height, max_entries}
+use Rattle.terms.specs.Limits.{max_count, max_height}
 use Rattle.terms.specs.declared.refusal.Refusal.{Refusal}
 use Rattle.terms.specs.declared.refusal.Refusal.TheVariants.{NoSuchServer, NoSuchObject, WrongLength, NoElement, NumbersUsedUp, HistoryFull, LaneFull}
 use Rattle.carrier.specs.Lanes.{or_else}
-use Rattle.rules.specs.State.{Layout, State, Server}
+use Rattle.rules.specs.State.{Layout, State}
 use Rattle.rules.specs.Turns.{check, unless, turn, Tagged, Refused}
 use Rattle.group.specs.Reached.{reached}
 use Rattle.group.proofs.Reaching.{Ends, none_some}

@@ -1,11 +1,11 @@
 -- What the reduced matrix says of the unknown. Assumes nothing.
-use Rattle.std.proofs.Common.{◌≡◌, ℕ, zero, suc, ◌+◌, ◌<◌, ◌≤◌, Bool, true, false, cond, ltb, ◌⊎◌, List, length, get_or, sym, refl, ap, ◌∙◌, subst, ap₂, inl, inr, not-suc-le-zero, arith, le-ltb, lt-ltb}
+use Rattle.std.proofs.Common.{◌≡◌, ℕ, zero, suc, ◌+◌, ◌<◌, ◌≤◌, Bool, cond, ltb, ◌⊎◌, List, get_or, sym, refl, ap, ◌∙◌, subst, inl, inr, not-suc-le-zero, arith, le-ltb, lt-ltb}
 use Rattle.std.proofs.lemmas.Bool.{cases_eq, cases_lt}
 use Rattle.field.specs.Arithmetic.{Arithmetic}
 use Rattle.field.specs.Laws.{Ring, Inverses}
-use Rattle.field.specs.Sums.{sum, dot, Below}
+use Rattle.field.specs.Sums.{dot, Below}
 use Rattle.matrix.specs.Matrices.{entry, row_sum, Determines, Solves}
-use Rattle.matrix.specs.Elimination.{Elements, Leads, Echelon, Kept, WidenedRow, Widened, ReducedTo}
+use Rattle.matrix.specs.Elimination.{Elements, Leads, Echelon, WidenedRow, Widened, ReducedTo}
 use Rattle.matrix.proofs.Widening as widening
 use Rattle.field.proofs.Algebra as algebra
 

@@ -1,5 +1,5 @@
 -- The loop over the columns. Assumes nothing.
-use Rattle.std.proofs.Common.{◌≡◌, ℕ, ◌+◌, ◌<◌, ◌≤◌, ◌⊎◌, List, [], ◌∷◌, length, get_or, set, sym, refl, ap, ◌∙◌, subst, inl, inr, arith, length-set}
+use Rattle.std.proofs.Common.{◌≡◌, ℕ, ◌+◌, ◌<◌, ◌≤◌, List, length, get_or, set, ◌∙◌, subst, arith, length-set}
 use Rattle.field.specs.Arithmetic.{Arithmetic}
 use Rattle.field.specs.Laws.{Ring, Inverses}
 use Rattle.matrix.specs.Matrices.{entry}

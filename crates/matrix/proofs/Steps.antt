@@ -1,11 +1,11 @@
 -- What a step of the elimination keeps. Assumes nothing.
-use Rattle.std.proofs.Common.{◌≡◌, ℕ, zero, suc, ◌+◌, ◌<◌, ◌≤◌, ◌⊎◌, List, length, get_or, set, sym, refl, ap, ◌∙◌, subst, ap₂, inl, inr, arith, get_or-set_other, get_or-set_same}
-use Rattle.std.proofs.lemmas.Bool.{cases_eq, cases_lt}
+use Rattle.std.proofs.Common.{◌≡◌, ℕ, ◌+◌, ◌<◌, ◌≤◌, List, length, get_or, set, sym, ap, ◌∙◌, subst, ap₂, inl, inr, arith, get_or-set_other, get_or-set_same}
+use Rattle.std.proofs.lemmas.Bool.{cases_eq}
 use Rattle.field.specs.Arithmetic.{Arithmetic}
 use Rattle.field.specs.Laws.{Ring, Inverses}
-use Rattle.field.specs.Sums.{sum, dot, Below}
+use Rattle.field.specs.Sums.{dot, Below}
 use Rattle.matrix.specs.Matrices.{entry}
-use Rattle.matrix.specs.Elimination.{Elements, Added, Cleared, Leads, Echelon, Kept}
+use Rattle.matrix.specs.Elimination.{Elements, Cleared, Leads, Echelon, Kept}
 use Rattle.field.proofs.Algebra as algebra
 
 pub kept_none : (ar : Arithmetic) (m : List (List ℕ)) → Kept ar m m

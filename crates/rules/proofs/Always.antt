@@ -1,13 +1,11 @@
 -- Tags are within their ranges in every run; so the core is sound in every run, and no delivery answers 6.
-use Rattle.std.proofs.Common.{◌≡◌, ℕ, ◌+◌, ◌-◌, ◌*◌, ◌/◌, ◌%◌, ◌<◌, ◌≤◌, true, false, ◌&&◌, eqb, ltb, leb, List, ◌∷◌, length, refl, arith}
+use Rattle.std.proofs.Common.{◌≡◌, ℕ, ◌+◌, ◌*◌, ◌/◌, ◌%◌, ◌<◌, ◌≤◌, true, false, ◌&&◌, eqb, ltb, leb, List, ◌∷◌, length, refl, arith}
 use Rattle.std.specs.List.{AllByRecursion as All}
 use Rattle.std.proofs.lemmas.Bool.{le-leb, and_right, ltb-true, lt-ltb, and_parts, and_from, or_left}
 use Rattle.rules.proofs.RankedMessages.{Message, Written, Tagged, Question, Plain, Coded, tag}
 use Rattle.rules.proofs.Ranked.{Code, Entry, State, has, core, slots, most_writes, most_height, fresh}
 use Rattle.rules.proofs.RankedSteps as Steps
 use Rattle.rules.proofs.RankedSteps.{Call, Write, Ask, Collect, Deliver, Apply, Encode, Sweep, Found, write_refusal, elements, open_slot, step, after, tag_fits}
-use Rattle.rules.proofs.Move
-use Rattle.rules.proofs.Sweep
 use Rattle.rules.proofs.Replies.{starts}
 use Rattle.rules.proofs.Frames.{Fine}
 use Rattle.rules.proofs.Calls.{checked, write_keeps, read_keeps, collect_keeps, apply_keeps, encode_keeps, sweep_kept}

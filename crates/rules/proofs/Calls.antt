@@ -1,7 +1,7 @@
 -- Every call keeps the core sound.
 use Rattle.std.proofs.Common.{◌≡◌, ℕ, ◌+◌, ◌-◌, ◌<◌, ◌≤◌, Bool, true, false, cond, not, ◌&&◌, ◌||◌, eqb, ltb, leb, ◌⊎◌, List, length, get_or, Some, None, filter, Option, sym, refl, ap, ◌∙◌, inl, inr, ⊎_elim, arith}
 use Rattle.std.proofs.lemmas.Bool.{both_ways, cases_Bool, cases_eq, eq-eqb, eqb-true, ltb-true, leb-true, leb-false, and_parts, and_from, or_cases, or_left, or_right, not-true, not-false, cond_both}
-use Rattle.rules.proofs.RankedMessages.{Written, Tagged, Question, tag, height, server}
+use Rattle.rules.proofs.RankedMessages.{Written, Tagged, Question, height, server}
 use Rattle.rules.proofs.RankedWords.{upd, listed, every, spread}
 use Rattle.rules.proofs.Ranked.{Code, Entry, Waiting, Read, Server, State, has, holds, enters, same_entry, kept, highest, top_tag, swap, is_open, core, slots, clients, most_reads, no_read}
 use Rattle.std.proofs.lemmas.List.FromFn.{get_or-map-range_with_len}

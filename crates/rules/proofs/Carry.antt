@@ -1,5 +1,5 @@
 -- A message's good standing goes from one core to the next.
-use Rattle.std.proofs.Common.{◌≡◌, ℕ, ◌≤◌, Bool, true, ◌⊎◌, List, get_or, sym, ◌∙◌, inl, inr, ⊎_elim, arith}
+use Rattle.std.proofs.Common.{◌≡◌, ℕ, ◌≤◌, Bool, true, List, get_or, sym, ◌∙◌, inl, inr, ⊎_elim, arith}
 use Rattle.rules.proofs.RankedMessages.{Message, Written, Tagged, Question, Plain, Coded}
 use Rattle.rules.proofs.Core.{Core, after, On, Kept, Asked, Mends, Replied, Good}
 

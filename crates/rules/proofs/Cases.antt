@@ -1,8 +1,8 @@
 -- Each call by its cases: what holds of every way that it can end holds of the call.
-use Rattle.std.proofs.Common.{◌≡◌, ℕ, ◌+◌, ◌-◌, ◌<◌, ◌≤◌, Bool, true, false, cond, not, ◌&&◌, ◌||◌, eqb, ltb, leb, ◌⊎◌, List, [], ◌∷◌, ◌++◌, length, get_or, Some, None, Option, sym, refl, ap, ◌∙◌, ap₂, inl, inr, ⊎_elim, arith}
+use Rattle.std.proofs.Common.{◌≡◌, ℕ, ◌+◌, ◌-◌, ◌<◌, ◌≤◌, Bool, true, false, cond, not, ◌&&◌, ◌||◌, eqb, ltb, leb, List, [], ◌∷◌, ◌++◌, length, get_or, Some, None, Option, sym, refl, ap, ◌∙◌, ap₂, inl, inr, ⊎_elim, arith}
 use Rattle.std.proofs.lemmas.Bool.{both_ways, cases_eq, ltb-true, leb-true, leb-false, and_parts, and_from, and_cases, or_parts, not-false, cond_both}
 use Rattle.rules.proofs.RankedMessages.{Message, Written, Tagged, Question, Plain, Coded, tag}
-use Rattle.rules.proofs.RankedWords.{upd, some, free}
+use Rattle.rules.proofs.RankedWords.{upd, some}
 use Rattle.rules.proofs.Ranked.{Code, Read, Server, State, has, holds, enters, kept, highest, top_tag, swap, is_open, slots, clients, queue, most_reads, no_read}
 use Rattle.rules.proofs.RankedSteps.{Refused, Tag, Value, Number, Still, Nothing, Outcome, Count, Found, Turn, turn, check, unless, write_refusal, open_refusal, read_refusal, read_found, collect_refusal, collect_at, object_refusal, lane_refusal, entered, queued, reading, tells as hearing, answered, in_hand, Picked, room, history_room, write_tag, write_done, write, open_done, free_slot, open_read, from_history, from_symbol, read, client_slot, collect_done, collect, wait_tag, picked, apply_done, apply_picked, apply, move_done, enter_done, encode_contained, within, encode_other, encode, swept, sweep_done, sweep, fits, reply, question_done, open_slot, take_done, internal_answer, client_answer, settle, mendable, mended, got, oldest, deliver}
 use Rattle.rules.proofs.Words.{upd_same, upd_other, highest_found}

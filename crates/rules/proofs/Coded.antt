@@ -1,13 +1,10 @@
 -- In every run every symbol is the code of what was written under the server's own tags.
-use Rattle.std.proofs.Common.{◌≡◌, ℕ, ◌+◌, ◌-◌, ◌/◌, ◌%◌, ◌<◌, ◌≤◌, true, false, ◌&&◌, eqb, ltb, List, [], ◌∷◌, ◌++◌, length, get_or, sym, refl, ap, ◌∙◌, subst, append-nil, arith}
+use Rattle.std.proofs.Common.{◌≡◌, ℕ, ◌+◌, ◌/◌, ◌%◌, ◌<◌, ◌≤◌, true, false, ◌&&◌, eqb, ltb, List, [], ◌∷◌, ◌++◌, length, get_or, sym, refl, ap, ◌∙◌, subst, append-nil, arith}
 use Rattle.std.proofs.lemmas.Bool.{and_right, both_ways, eq-eqb, eqb-true, ltb-true, and_from, or_right}
-use Rattle.rules.proofs.RankedMessages.{tag}
 use Rattle.rules.proofs.Ranked.{Code, Entry, State, enters, same_entry, slots, fresh}
 use Rattle.rules.proofs.RankedSteps as Steps
 use Rattle.rules.proofs.RankedSteps.{Call, Write, Ask, Collect, Deliver, Apply, Encode, Sweep, Tag, Found, turn, unless, write_refusal, entered, counted, reading, elements, write_tag, write_done, write, step, after}
 use Rattle.rules.proofs.Words.{upd_same, every_at, enters_push}
-use Rattle.rules.proofs.Move
-use Rattle.rules.proofs.Sweep
 use Rattle.std.proofs.ByRecursion.{All-push, All-weaker}
 use Rattle.rules.proofs.RankedFacts.{Lawful, Allowed, accepted_by}
 use Rattle.rules.proofs.Calls.{checked}

@@ -1,5 +1,5 @@
 -- A delivery keeps the core sound, and never answers 6.
-use Rattle.std.proofs.Common.{◌≡◌, ℕ, ◌+◌, ◌-◌, ◌<◌, Bool, true, false, cond, not, ◌&&◌, ◌||◌, eqb, ltb, ◌⊎◌, List, [], ◌∷◌, ◌++◌, length, get_or, sym, refl, ap, ◌∙◌, inl, inr, ⊎_elim, arith}
+use Rattle.std.proofs.Common.{◌≡◌, ℕ, ◌<◌, Bool, true, false, cond, not, ◌&&◌, ◌||◌, eqb, ltb, ◌⊎◌, List, [], ◌∷◌, ◌++◌, length, get_or, sym, refl, ap, ◌∙◌, inl, inr, ⊎_elim, arith}
 use Rattle.std.proofs.lemmas.Bool.{both_ways, cases_Bool, cases_eq, eq-eqb, ne_eqb, eqb-true, eqb-false, ltb-true, and_parts, and_from, or_left, or_right, not-true, cond_both}
 use Rattle.rules.proofs.RankedMessages.{Message, Written, Tagged, Question, Plain, Coded, tag}
 use Rattle.rules.proofs.RankedWords.{upd, listed, taken}
@@ -11,7 +11,7 @@ use Rattle.rules.proofs.Words.{upd_same, upd_other, upd_keeps, every_from, seek_
 use Rattle.rules.proofs.Carry.{good_carry}
 use Rattle.rules.proofs.Take.{take_keeps}
 use Rattle.rules.proofs.Replies.{stated, replies, counts, usable}
-use Rattle.rules.proofs.Frames.{same, Mild, mild_self, taken_here, taken_else, with_lanes, Fine, fine_put, fine_post, fine_take}
+use Rattle.rules.proofs.Frames.{Mild, mild_self, taken_here, taken_else, with_lanes, Fine, fine_put, fine_post, fine_take}
 use Rattle.rules.proofs.Calls.{unless_both, checked, queued_mild, reading_mild, internal_mild}
 
 -- the two ends of a lane that is not refused

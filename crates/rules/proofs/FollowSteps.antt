@@ -1,5 +1,5 @@
 -- Over each call, the reads that the events tell of stay joined to the places of every server.
-use Rattle.std.proofs.Common.{◌≡◌, ℕ, zero, suc, ◌+◌, ◌-◌, ◌/◌, ◌<◌, ◌≤◌, Bool, true, false, cond, not, ◌&&◌, eqb, ltb, ◌⊎◌, List, [], ◌∷◌, ◌++◌, map, length, get_or, Some, sym, refl, ap, ◌∙◌, subst, ap₂, inl, inr, ⊎_elim, append-nil, arith}
+use Rattle.std.proofs.Common.{◌≡◌, ℕ, zero, suc, ◌+◌, ◌-◌, ◌/◌, ◌<◌, ◌≤◌, Bool, true, false, cond, not, ◌&&◌, eqb, ltb, List, [], ◌∷◌, ◌++◌, map, length, get_or, Some, sym, refl, ap, ◌∙◌, subst, ap₂, inl, inr, ⊎_elim, append-nil, arith}
 use mathlib.Core.Path.{fun_ext}
 use Rattle.std.specs.List.{AllByRecursion as All}
 use Rattle.std.proofs.lemmas.Bool.Decides.{nat_tests as ways}
@@ -33,7 +33,7 @@ use Rattle.rules.proofs.Fitting.{plain_fits, coded_fits}
 use Rattle.rules.proofs.View.{state_at, answer_at}
 use Rattle.rules.proofs.Told.{Tells, tells_push}
 use Rattle.rules.proofs.Heights.{Heights, Proper}
-use Rattle.rules.proofs.Following.{all_same, at, live, Follows, stays, follows_change, follows_open}
+use Rattle.rules.proofs.Following.{all_same, live, Follows, stays, follows_change, follows_open}
 use Rattle.rules.proofs.Overtaking.{relink, best_less, overtake_follows}
 use Rattle.rules.proofs.Replying.{none_follows, hand_follows, internal_follows, client_follows}
 

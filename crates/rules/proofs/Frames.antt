@@ -1,11 +1,11 @@
 -- The parts of a step as changes of the core.
-use Rattle.std.proofs.Common.{◌≡◌, ℕ, ◌+◌, ◌<◌, ◌≤◌, true, not, ◌&&◌, eqb, ltb, ◌⊎◌, List, [], ◌∷◌, ◌++◌, drop, sym, refl, ap, ◌∙◌, inl, inr, arith}
+use Rattle.std.proofs.Common.{◌≡◌, ℕ, ◌<◌, ◌≤◌, true, not, ◌&&◌, eqb, ltb, ◌⊎◌, List, [], ◌∷◌, ◌++◌, drop, sym, refl, ap, ◌∙◌, inl, inr, arith}
 use Rattle.std.proofs.lemmas.Bool.Decides.{nat_tests}
 use Rattle.std.proofs.lemmas.Bool.{eq-eqb, ne_eqb, eqb-true, lt-ltb, and_parts, and_from, cond_both}
 use Rattle.rules.proofs.RankedMessages.{Message}
 use Rattle.rules.proofs.RankedWords.{upd, Lanes, posted, spread, taken}
 use Rattle.rules.proofs.Core.{heard, Good, Sound}
-use Rattle.rules.proofs.Ranked.{Code, Read, Server, State, has, holds, is_open, core, slots}
+use Rattle.rules.proofs.Ranked.{Code, Server, State, has, holds, is_open, core, slots}
 use Rattle.rules.proofs.Words.{upd_each}
 use Rattle.rules.proofs.Alter
 use Rattle.rules.proofs.Alter.{Alter, was, new, alter_keeps}

@@ -1,5 +1,5 @@
 -- The log of accepted writes grows; in every run every symbol is right.
-use Rattle.std.proofs.Common.{◌≡◌, ℕ, ◌+◌, ◌-◌, ◌/◌, ◌%◌, ◌<◌, ◌≤◌, true, false, eqb, ◌⊎◌, List, [], ◌∷◌, ◌++◌, length, get_or, sym, refl, ap, ◌∙◌, inl, inr, ⊎_elim, arith}
+use Rattle.std.proofs.Common.{◌≡◌, ℕ, ◌+◌, ◌/◌, ◌%◌, ◌<◌, ◌≤◌, true, false, eqb, ◌⊎◌, List, [], ◌∷◌, ◌++◌, length, get_or, sym, refl, ap, ◌∙◌, inl, inr, ⊎_elim, arith}
 use Rattle.std.specs.List.{AllByRecursion as All}
 use Rattle.std.proofs.lemmas.Bool.{or_from, and_right, both_ways, cases_Bool, eq-eqb, ne_eqb, eqb-true, and_from, or_cases, or_parts, cond_both, cond-true, cond-false}
 use Rattle.rules.proofs.RankedMessages.{Message, Written, Tagged, Question, Plain, Coded, tag}
@@ -8,9 +8,6 @@ use Rattle.rules.proofs.Ranked.{Code, Entry, Waiting, Server, State, holds, ente
 use Rattle.rules.proofs.RankedSteps as Steps
 use Rattle.rules.proofs.RankedSteps.{Call, Write, Ask, Collect, Deliver, Apply, Encode, Sweep, Answer, Refused, Tag, Still, Nothing, Outcome, Found, Turn, turn, entered, counted, queued, sifted, reading, moved, opening, write_tag, write_done, write, open_done, free_slot, collect_done, wait_tag, apply_done, move_done, enter_done, sweep_done, reply, question_done, take_done, step, after}
 use Rattle.rules.proofs.Words.{upd_each, holds_push}
-use Rattle.rules.proofs.Move
-use Rattle.rules.proofs.Sweep
-use Rattle.rules.proofs.Sweep.{below}
 use Rattle.std.proofs.ByRecursion.{All-weaker}
 use Rattle.rules.proofs.RankedFacts.{Lawful, only, Allowed}
 use Rattle.rules.proofs.Calls.{object_server, object_object}

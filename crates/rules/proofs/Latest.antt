@@ -1,15 +1,13 @@
 -- What a write and an apply make of the peaks; reads answered at once give the latest, in every run.
-use Rattle.std.proofs.Common.{◌≡◌, ℕ, ◌+◌, ◌-◌, ◌/◌, ◌%◌, ◌<◌, ◌≤◌, max, Bool, true, false, cond, eqb, ltb, ◌⊎◌, List, [], ◌∷◌, ◌++◌, get_or, Some, sym, refl, ap, ◌∙◌, subst, ap₂, inl, inr, ⊎_elim, append-nil, arith}
+use Rattle.std.proofs.Common.{◌≡◌, ℕ, ◌+◌, ◌/◌, ◌%◌, ◌<◌, ◌≤◌, max, Bool, true, false, cond, eqb, ltb, ◌⊎◌, List, [], ◌∷◌, ◌++◌, get_or, Some, sym, refl, ap, ◌∙◌, subst, ap₂, inl, inr, ⊎_elim, append-nil, arith}
 use Rattle.std.specs.List.{AllByRecursion as All}
 use Rattle.std.proofs.lemmas.Bool.{or_from, and_left, both_ways, cases_Bool, cases_eq, eq-eqb, ne_eqb, eqb-true, ltb-false, and_parts, and_from, or_cases, or_parts, or_right, cond_both, cond-true, cond-false}
-use Rattle.rules.proofs.RankedMessages.{Written, tag, height, server}
+use Rattle.rules.proofs.RankedMessages.{Written, height, server}
 use Rattle.rules.proofs.RankedWords.{upd, listed, Lanes, spread}
 use Rattle.rules.proofs.Ranked.{Code, Entry, Waiting, Read, Server, State, enters, same_entry, highest, top_tag, is_open, slots, clients, fresh}
 use Rattle.rules.proofs.RankedSteps as Steps
 use Rattle.rules.proofs.RankedSteps.{Call, Write, Ask, Collect, Deliver, Apply, Encode, Sweep, Answer, Found, write_refusal, entered, counted, queued, reading, overtaken, Picked, write_tag, write_done, write, wait_tag, picked, apply_done, step, after}
 use Rattle.rules.proofs.Words.{upd_same, upd_other, enters_push, top_push}
-use Rattle.rules.proofs.Move
-use Rattle.rules.proofs.Sweep
 use Rattle.std.proofs.ByRecursion.{All-push, All-weaker}
 use Rattle.rules.proofs.RankedFacts.{Lawful, Allowed, accepted_by, best, applies}
 use Rattle.rules.proofs.Calls.{overtaken_open}

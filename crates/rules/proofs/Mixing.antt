@@ -1,8 +1,7 @@
 -- A delivery keeps the values right.
-use Rattle.std.proofs.Common.{◌≡◌, ℕ, zero, suc, ◌-◌, ◌<◌, ◌≤◌, Bool, true, false, cond, not, ◌&&◌, ◌||◌, eqb, ◌⊎◌, List, [], ◌∷◌, get_or, sym, refl, ap, ◌∙◌, subst, inl, inr, ⊎_elim, arith}
+use Rattle.std.proofs.Common.{◌≡◌, ℕ, zero, suc, ◌<◌, ◌≤◌, Bool, true, false, cond, not, ◌&&◌, ◌||◌, eqb, ◌⊎◌, List, [], ◌∷◌, get_or, sym, refl, ap, ◌∙◌, subst, inl, inr, ⊎_elim, arith}
 use Rattle.std.specs.List.{AllByRecursion as All}
 use Rattle.std.proofs.lemmas.Bool.{both_ways, cases_eq, eqb-true, and_parts, and_cases, or_cases, or_left, or_right, not-true, not-false, cond_both, cond-false}
-use Rattle.rules.proofs.RankedMessages.{tag}
 use Rattle.rules.proofs.RankedWords.{upd, listed}
 use Rattle.rules.proofs.Ranked.{Code, Entry, Read, Server, has, holds, enters, same_entry, kept, swap}
 use Rattle.std.proofs.lemmas.List.FromFn.{get_or-map-range_with_len}

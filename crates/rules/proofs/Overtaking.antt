@@ -1,5 +1,5 @@
 -- Reads over the applying of a write: a client's open read of its object is answered exactly where the events close it.
-use Rattle.std.proofs.Common.{◌≡◌, ℕ, suc, ◌+◌, ◌<◌, Bool, true, false, cond, ◌&&◌, ◌||◌, eqb, ltb, ◌⊎◌, List, [], ◌∷◌, ◌++◌, length, get_or, sym, refl, ap, ◌∙◌, subst, ap₂, inl, inr, ⊎_elim, arith}
+use Rattle.std.proofs.Common.{◌≡◌, ℕ, suc, ◌<◌, Bool, true, false, cond, ◌&&◌, ◌||◌, eqb, ltb, ◌⊎◌, List, [], ◌∷◌, ◌++◌, length, get_or, sym, refl, ap, ◌∙◌, subst, ap₂, inl, inr, ⊎_elim, arith}
 use Rattle.std.specs.List.{AllByRecursion as All}
 use Rattle.std.proofs.lemmas.Bool.{cases_Bool, both_ways, and_parts, and_from, and_right, and_left, and_cases, lt-ltb, ltb-true, eq-eqb, eqb-true, cond-true, cond-false}
 use Rattle.std.proofs.lemmas.List.FromFn.{fill_by_all}
@@ -104,7 +104,7 @@ module _ (g : Code) (es : List Event) (e : Event) (L M : List Entry) (A B : ℕ 
         let cl : (at F l.index).client ≡ true = l.client ∙ a.0 in
         let same : at G l.index ≡ closed (layout_of g) s (es ++ e ∷ []) (at F l.index) =
         at_G l.index l.among ∙ cond-true ((at F l.index).client && ((at F l.index).is_open && newer (at F l.index).object)) _ _
-        (and_from (at F l.index).client _ cl (and_from (at F l.index).is_open (newer (at F l.index).object) l.open-too
+        (and_from (at F l.index).client _ cl (and_from (at F l.index).is_open (newer (at F l.index).object) l.open_too
         (subst (λ y. newer y ≡ true) (sym obj') (and_from (enters M x t) (ltb (best L x (A s)) t) (is_in low) low)))) in
         let tag_is : told.latest s (at F l.index).object (es ++ e ∷ []) ≡ tag_at t = latest_same (es ++ e ∷ []) M B after s (at F l.index).object ∙ ap tag_at (ap (λ y. best M y (B s)) obj' ∙ result low) in
         gone (ap (λ (r : Read). ltb i slots && is_open r) over ∙ and_right (ltb i slots) false refl) (ap (λ (r : Followed). r.is_open) same)

@@ -1,14 +1,14 @@
 -- The highest applied tag of an object is the own tag or the highest held one; an open client read has it as its tag.
-use Rattle.std.proofs.Common.{◌≡◌, ℕ, ◌+◌, ◌-◌, ◌<◌, ◌≤◌, max, Bool, true, false, cond, ◌&&◌, ◌||◌, eqb, ltb, ◌⊎◌, List, [], ◌∷◌, ◌++◌, sym, refl, ap, ◌∙◌, ap₂, inl, inr, ⊎_elim, arith}
+use Rattle.std.proofs.Common.{◌≡◌, ℕ, ◌+◌, ◌<◌, ◌≤◌, max, Bool, true, false, cond, ◌&&◌, ◌||◌, eqb, ltb, List, [], ◌∷◌, ◌++◌, sym, refl, ap, ◌∙◌, ap₂, inl, inr, ⊎_elim, arith}
 use Rattle.std.specs.List.{AllByRecursion as All}
 use Rattle.std.proofs.lemmas.Bool.{and_right, both_ways, cases_Bool, cases_eq, eq-eqb, ne_eqb, eqb-true, lt-ltb, and_parts, and_from, and_cases, or_left, or_right, cond_both}
-use Rattle.rules.proofs.RankedMessages.{Message, tag}
+use Rattle.rules.proofs.RankedMessages.{Message}
 use Rattle.rules.proofs.RankedWords.{upd, Lanes}
 use Rattle.rules.proofs.Ranked.{Code, Entry, Read, Server, State, has, holds, enters, kept, top_tag, is_open, core, slots, clients, no_read}
 use Rattle.rules.proofs.RankedSteps.{Value, Found, Turn, entered, sifted, reading, moved, new_read, opening, answered, overtaken, open_done, free_slot, read, collect_done, collect, move_done, enter_done, encode, swept, sweep_done, sweep, reply, question_done, take_done, deliver}
 use Rattle.rules.proofs.Words.{upd_same, upd_other, enters_push, top_push, top_bound, top_found}
 use Rattle.rules.proofs.Sweep.{Idle, below, level}
-use Rattle.rules.proofs.Frames.{same, Fine}
+use Rattle.rules.proofs.Frames.{Fine}
 use Rattle.rules.proofs.RankedFacts.{Lawful, Tested, only, best}
 use Rattle.rules.proofs.Calls.{sweep_idle, sweep_no_new}
 use Rattle.rules.proofs.Source.{Sourced}

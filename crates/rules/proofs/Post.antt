@@ -1,5 +1,5 @@
 -- A message other than a tag notice is posted to some lanes.
-use Rattle.std.proofs.Common.{◌≡◌, ℕ, ◌+◌, ◌<◌, Bool, ◌⊎◌, List, [], ◌∷◌, ◌++◌, sym, ◌∙◌, subst, inl, inr, ⊎_elim, arith}
+use Rattle.std.proofs.Common.{◌≡◌, ℕ, ◌<◌, Bool, ◌⊎◌, List, [], ◌∷◌, ◌++◌, sym, ◌∙◌, subst, inl, inr, ⊎_elim, arith}
 use Rattle.rules.proofs.RankedMessages.{Message}
 use Rattle.rules.proofs.Core.{Core, heard, Chain, On, Good, Sound}
 use Rattle.rules.proofs.Walks.{chain_push, on_push, Place, place, before, here}

@@ -3,7 +3,6 @@ use Rattle.std.proofs.Common.{ℕ, max, Bool, true, false, cond, not, ◌&&◌, 
 use Rattle.field.specs.Arithmetic.{Arithmetic}
 use Rattle.code.specs.Codings.{Coding}
 use Rattle.rules.specs.State.{Layout}
-use Rattle.rules.proofs.RankedMessages.{tag}
 use Rattle.rules.proofs.Core.{Core}
 use Rattle.rules.proofs.RankedWords.{listed, Lanes}
 

@@ -1,6 +1,6 @@
 -- What a ranked step may find, what it accepts and applies, and what a layout gives.
 use Rattle.std.proofs.Common.{◌≡◌, ℕ, ◌<◌, ◌≤◌, max, Bool, true, cond, ◌&&◌, eqb, ltb, List, [], ◌∷◌, Decides}
-use Rattle.code.specs.Codings.{combination, symbol}
+use Rattle.code.specs.Codings.{combination}
 use Rattle.code.specs.Recovery as recovery
 use Rattle.rules.proofs.RankedMessages.{Message, Written, Tagged, Question, Plain, Coded}
 use Rattle.rules.proofs.Ranked.{Code, coding_of, Entry, State, enters, is_open, slots}

@@ -1,5 +1,5 @@
 -- What the invariant says of a new question, of a reply, and of a reply that is taken; and where it starts.
-use Rattle.std.proofs.Common.{◌≡◌, ℕ, ◌+◌, ◌<◌, ◌≤◌, Bool, true, false, cond, eqb, ◌⊎◌, List, [], ◌∷◌, ◌++◌, get_or, sym, refl, ◌∙◌, inl, inr, ⊎_elim, arith}
+use Rattle.std.proofs.Common.{◌≡◌, ℕ, ◌<◌, ◌≤◌, Bool, true, false, cond, eqb, ◌⊎◌, List, [], ◌∷◌, ◌++◌, get_or, sym, refl, ◌∙◌, inl, inr, ⊎_elim, arith}
 use Rattle.std.proofs.lemmas.Bool.{both_ways, cases_Bool, cases_order, eqb-true, eqb-false}
 use Rattle.rules.proofs.RankedMessages.{Message, Question, Coded}
 use Rattle.rules.proofs.Core.{Core, Chain, On, Kept, Asked, Mends, Replied, Good, Sound}

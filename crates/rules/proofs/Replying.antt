@@ -1,5 +1,5 @@
 -- Reads over the delivery of a reply: it is taken by the read with its number, and closes it where the delivery answers 4.
-use Rattle.std.proofs.Common.{◌≡◌, ℕ, suc, ◌+◌, ◌<◌, Bool, true, false, cond, not, ◌&&◌, ◌||◌, eqb, ltb, List, [], ◌∷◌, ◌++◌, length, sym, refl, ap, ◌∙◌, subst, ap₂, inl, inr, arith}
+use Rattle.std.proofs.Common.{◌≡◌, ℕ, suc, ◌<◌, Bool, true, false, cond, not, ◌&&◌, ◌||◌, eqb, ltb, List, [], ◌∷◌, ◌++◌, length, sym, refl, ap, ◌∙◌, subst, ap₂, inl, inr, arith}
 use Rattle.std.proofs.lemmas.Bool.{cases_Bool, cases_eq, both_ways, and_parts, and_from, and_right, and_left, lt-ltb, eq-eqb, ne_eqb, cond-true, cond-false, or_right}
 use Rattle.rules.specs.Words.{upd}
 use Rattle.rules.specs.Law.{with_own}

@@ -1,5 +1,5 @@
 -- The steps of the rules on the view of a ranked state are the view of the ranked steps.
-use Rattle.std.proofs.Common.{◌≡◌, ℕ, zero, suc, ◌+◌, ◌-◌, ◌<◌, ◌≤◌, Bool, true, false, cond, not, ◌&&◌, ◌||◌, eqb, ltb, leb, List, [], ◌∷◌, ◌++◌, map, length, get_or, take, drop, Some, None, Option, sym, refl, ap, ◌∙◌, subst, ap₂, arith}
+use Rattle.std.proofs.Common.{◌≡◌, ℕ, zero, suc, ◌+◌, ◌<◌, ◌≤◌, Bool, true, false, cond, not, ◌&&◌, ◌||◌, eqb, ltb, leb, List, [], ◌∷◌, ◌++◌, map, length, get_or, take, drop, Some, None, Option, sym, refl, ap, ◌∙◌, subst, ap₂, arith}
 use mathlib.Core.Path.{fun_ext}
 use lib.ListN.{length-map}
 use Rattle.std.proofs.lemmas.Bool.Decides.{nat_tests}
@@ -22,7 +22,7 @@ use Rattle.rules.specs.Updates as updates
 use Rattle.rules.specs.Writing as writing
 use Rattle.rules.specs.Reading as reading_rule
 use Rattle.rules.specs.Encoding as encoding
-use Rattle.rules.proofs.RankedMessages.{Written, Tagged, Question, tag, height, server}
+use Rattle.rules.proofs.RankedMessages.{Written, Question, height, server}
 use Rattle.rules.proofs.Unranked.{tag_at}
 use Rattle.rules.proofs.RankedWords.{Lanes}
 use Rattle.rules.proofs.Ranked.{Code, layout_of, Entry, Waiting, Read, Server, State, kept, top_tag, is_open, clients, depth, most_reads}

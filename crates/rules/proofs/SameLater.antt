@@ -2,7 +2,6 @@
 use Rattle.std.proofs.Common.{◌≡◌, ℕ, zero, suc, ◌+◌, ◌-◌, ◌<◌, ◌≤◌, Bool, true, false, cond, not, ◌&&◌, ◌||◌, eqb, ltb, List, [], ◌∷◌, ◌++◌, map, length, get_or, Some, None, filter, Option, sym, refl, ap, ◌∙◌, ap₂, arith}
 use mathlib.Core.Path.{fun_ext}
 use lib.ListN.{length-map}
-use Rattle.std.proofs.lemmas.Bool.Decides.{nat_tests}
 use Rattle.std.proofs.lemmas.Bool.{cond-true, cond-false, ltb-true, lt-ltb, and_parts, both_ways, not-true}
 use Rattle.std.proofs.lemmas.List.{map-append}
 use Rattle.terms.specs.Lists.{listed}
@@ -24,7 +23,7 @@ use Rattle.rules.specs.Encoding as encoding
 use Rattle.rules.specs.Delivering as delivering
 use Rattle.rules.proofs.RankedMessages.{Message, Written, Tagged, Question, Plain, Coded, tag}
 use Rattle.rules.proofs.Unranked.{tag_at, message_at}
-use Rattle.rules.proofs.RankedWords.{lowest, Lanes}
+use Rattle.rules.proofs.RankedWords.{lowest}
 use Rattle.rules.proofs.Ranked.{Code, layout_of, Entry, Waiting, Read, Server, State, has, swap, same_entry, holds, kept, highest, top_tag, is_open, no_read, clients, slots, queue, most_reads}
 use Rattle.rules.proofs.RankedSteps as Steps
 use Rattle.rules.proofs.RankedSteps.{Tag, Value, Still, Outcome, Count, Turn, turn}

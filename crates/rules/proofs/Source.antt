@@ -1,5 +1,5 @@
 -- Where entries and tags come from: a claim on every entry, and one on every tag of an object, that every call keeps.
-use Rattle.std.proofs.Common.{◌≡◌, ℕ, zero, suc, ◌+◌, ◌-◌, ◌<◌, Bool, true, false, cond, not, ◌&&◌, ◌||◌, eqb, ltb, leb, ◌⊎◌, List, [], ◌∷◌, ◌++◌, length, get_or, take, drop, Some, None, filter, Option, refl, subst, inl, inr, ⊎_elim, arith}
+use Rattle.std.proofs.Common.{◌≡◌, ℕ, zero, suc, ◌+◌, ◌-◌, ◌<◌, Bool, true, false, cond, not, ◌&&◌, ◌||◌, eqb, ltb, leb, List, [], ◌∷◌, ◌++◌, length, get_or, take, drop, Some, None, filter, Option, refl, subst, inl, inr, ⊎_elim, arith}
 use Rattle.std.specs.List.{AllByRecursion as All}
 use Rattle.std.proofs.lemmas.Bool.{both_ways, cases_eq, eqb-true, leb-false, and_parts, or_cases, cond_both}
 use Rattle.rules.proofs.RankedMessages.{Message, Written, Tagged, Question, Plain, Coded, tag, height, server}
@@ -8,7 +8,6 @@ use Rattle.rules.proofs.Ranked.{Code, Entry, Waiting, Read, Server, State, has, 
 use Rattle.rules.proofs.RankedSteps as Steps
 use Rattle.rules.proofs.RankedSteps.{Tag, Value, Number, Still, Outcome, Count, Found, Turn, turn, check, unless, write_refusal, open_refusal, read_refusal, read_found, collect_refusal, collect_at, object_refusal, lane_refusal, entered, counted, queued, sifted, reading, tells as hearing, moved, new_read, opening, answered, in_hand, overtaken, Picked, room, history_room, write_tag, write_done, write, open_done, free_slot, open_read, from_history, from_symbol, read, client_slot, collect_done, collect, wait_tag, next_ready, picked, apply_done, apply_picked, apply, move_done, enter_done, encode_contained, within, encode_other, encode, stays, settled, swept, sweep_done, sweep, fits, states, mixed, reply, question_done, open_slot, take_done, internal_answer, client_answer, settle, mendable, mended, got, oldest, deliver}
 use Rattle.rules.proofs.Words.{upd_same, upd_other, highest_found}
-use Rattle.rules.proofs.Sweep.{below}
 use Rattle.std.proofs.ByRecursion.{All-push, All-drop, All-take, All-append, All-get_or, all_kept_by}
 use Rattle.rules.proofs.Calls.{unless_both, object_object}
 

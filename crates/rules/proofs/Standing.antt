@@ -30,7 +30,7 @@ use Rattle.std.proofs.ByRecursion.{All-from_get_or}
 use Rattle.rules.proofs.Notices.{Traced, made_write, made_by, step_traced, fresh_traced}
 use Rattle.message.specs.Tags.{rank}
 use Rattle.rules.proofs.Unranked.{tag_at}
-use Rattle.rules.proofs.Ranked.{Code, layout_of, Entry, Read, State, clients, kept, fresh, slots}
+use Rattle.rules.proofs.Ranked.{Code, layout_of, Entry, Read, State, clients, fresh, slots}
 use Rattle.rules.proofs.RankedSteps as Steps
 use Rattle.rules.proofs.RankedSteps.{Answer, Refused, Tag, Value, Number, Still, Nothing, Outcome, Count, Turn, write_tag}
 use Rattle.rules.proofs.RankedFacts as law

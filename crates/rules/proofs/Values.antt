@@ -1,12 +1,11 @@
 -- Values: what is entered, sent, in hand and coded is what was written under the tags.
-use Rattle.std.proofs.Common.{◌≡◌, ℕ, ◌+◌, ◌-◌, ◌<◌, ◌≤◌, Bool, true, false, ◌&&◌, eqb, ltb, ◌⊎◌, List, [], ◌∷◌, ◌++◌, length, get_or, sym, refl, ap, ◌∙◌, ap₂, inl, inr, ⊎_elim, arith}
+use Rattle.std.proofs.Common.{◌≡◌, ℕ, ◌<◌, ◌≤◌, Bool, true, false, ◌&&◌, eqb, ltb, ◌⊎◌, List, [], ◌∷◌, ◌++◌, length, get_or, sym, refl, ap, ◌∙◌, ap₂, inl, inr, ⊎_elim, arith}
 use Rattle.std.specs.List.{AllByRecursion as All}
 use Rattle.std.proofs.lemmas.Bool.{both_ways, cases_Bool, cases_eq, eqb-true, and_parts, or_cases, cond-true, cond-false}
-use Rattle.rules.proofs.RankedMessages.{Message, Written, Tagged, Question, Plain, Coded, tag}
+use Rattle.rules.proofs.RankedMessages.{Message, Written, Tagged, Question, Plain, Coded}
 use Rattle.rules.proofs.RankedWords.{upd, Lanes}
 use Rattle.rules.proofs.Core.{Good, Asked, Replied}
 use Rattle.rules.proofs.Ranked.{Code, Entry, Server, State, has, holds, enters, same_entry, entered_value, kept, zeros, is_open, core, slots}
-use Rattle.rules.proofs.RankedSteps.{counted}
 use Rattle.rules.proofs.Words.{upd_same, upd_other, upd_each}
 use Rattle.rules.proofs.Frames.{Fine}
 use Rattle.rules.proofs.RankedFacts.{Lawful}

@@ -1,14 +1,13 @@
 -- Every call keeps the values right.
-use Rattle.std.proofs.Common.{◌≡◌, ℕ, ◌+◌, ◌-◌, ◌<◌, Bool, true, false, cond, not, ◌&&◌, ◌||◌, eqb, ltb, leb, ◌⊎◌, List, [], ◌∷◌, ◌++◌, length, get_or, Some, None, Option, sym, refl, ap, ◌∙◌, inl, inr, ⊎_elim, arith}
+use Rattle.std.proofs.Common.{◌≡◌, ℕ, ◌+◌, ◌-◌, ◌<◌, Bool, true, false, cond, not, ◌&&◌, ◌||◌, eqb, ltb, leb, List, [], ◌∷◌, ◌++◌, length, get_or, Some, None, Option, sym, refl, ap, ◌∙◌, inl, inr, ⊎_elim, arith}
 use Rattle.std.specs.List.{AllByRecursion as All}
 use Rattle.std.proofs.lemmas.Bool.{both_ways, cases_eq, eqb-true, leb-false, and_parts, and_from, or_right, not-false, cond_both}
-use Rattle.rules.proofs.RankedMessages.{Message, Written, Tagged, Question, tag, height, server}
+use Rattle.rules.proofs.RankedMessages.{Message, Written, Tagged, Question, height, server}
 use Rattle.rules.proofs.RankedWords.{upd, listed, spread}
 use Rattle.rules.proofs.Ranked.{Code, Entry, Waiting, Read, Server, State, has, holds, enters, kept, highest, top_tag, swap, is_open, slots, clients, most_reads, no_read}
 use Rattle.std.proofs.lemmas.List.FromFn.{get_or-map-range_with_len, fill_by_all}
-use Rattle.rules.proofs.RankedSteps.{Tag, Value, Number, Still, Outcome, Count, Found, Turn, turn, check, unless, write_refusal, open_refusal, read_refusal, read_found, collect_refusal, collect_at, object_refusal, entered, counted, queued, sifted, reading, moved, new_read, opening, overtaken, Picked, room, history_room, elements, write_tag, write_done, write, open_done, free_slot, open_read, from_history, from_symbol, read, client_slot, collect_done, collect, wait_tag, picked, apply_done, apply_picked, apply, move_done, enter_done, encode_contained, within, encode_other, encode, swept, sweep_done, sweep}
+use Rattle.rules.proofs.RankedSteps.{Tag, Value, Number, Still, Outcome, Count, Found, Turn, turn, check, unless, write_refusal, open_refusal, read_refusal, read_found, collect_refusal, collect_at, object_refusal, entered, counted, queued, sifted, reading, moved, new_read, opening, overtaken, Picked, room, history_room, write_tag, write_done, write, open_done, free_slot, open_read, from_history, from_symbol, read, client_slot, collect_done, collect, wait_tag, picked, apply_done, apply_picked, apply, move_done, enter_done, encode_contained, within, encode_other, encode, swept, sweep_done, sweep}
 use Rattle.rules.proofs.Words.{upd_same, upd_other, highest_found}
-use Rattle.rules.proofs.Sweep.{below}
 use Rattle.rules.proofs.Frames.{Fine}
 use Rattle.std.proofs.ByRecursion.{All-push}
 use Rattle.rules.proofs.RankedFacts.{mix, Lawful, Decoded}

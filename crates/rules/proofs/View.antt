@@ -21,7 +21,7 @@ use Rattle.rules.specs.Encoding as encoding
 use Rattle.rules.specs.State as model
 use Rattle.rules.specs.State.{Free, Open, Answered}
 use Rattle.rules.specs.Turns as turns
-use Rattle.rules.proofs.RankedMessages.{Message, Tagged, tag, height, server}
+use Rattle.rules.proofs.RankedMessages.{Message, tag}
 use Rattle.rules.proofs.Unranked.{tag_at, message_at}
 use Rattle.rules.proofs.RankedWords.{seek, lowest, Lanes}
 use Rattle.rules.proofs.Ranked.{Code, layout_of, Entry, Waiting, Read, Server, State, zeros, same_entry, enters, holds, entered_value, kept, highest, top_tag, fresh}

@@ -1,12 +1,11 @@
 -- The servers in hand of an open read do not recover its object, in any run.
-use Rattle.std.proofs.Common.{◌≡◌, ℕ, ◌+◌, ◌-◌, ◌<◌, Bool, true, false, ltb, ◌⊎◌, List, sym, refl, ap, ◌∙◌, inl, inr, ⊎_elim}
+use Rattle.std.proofs.Common.{◌≡◌, ℕ, ◌+◌, ◌<◌, Bool, true, false, ltb, ◌⊎◌, List, sym, refl, ap, ◌∙◌, inl, inr, ⊎_elim}
 use Rattle.std.proofs.lemmas.Bool.{both_ways, cases_eq, and_parts, and_from}
-use Rattle.rules.proofs.RankedMessages.{Message, Coded, tag}
+use Rattle.rules.proofs.RankedMessages.{Message, Coded}
 use Rattle.rules.proofs.RankedWords.{upd, Lanes}
 use Rattle.rules.proofs.Ranked.{Code, Entry, Waiting, Read, Server, State, is_open, slots, clients, no_read}
-use Rattle.rules.proofs.RankedSteps.{Call, Write, Ask, Collect, Deliver, Apply, Encode, Sweep, Found, Turn, entered, counted, queued, sifted, reading, moved, new_read, opening, in_hand, write_tag, write_done, write, open_done, free_slot, collect_done, wait_tag, apply_done, move_done, enter_done, swept, sweep_done, reply, question_done, open_slot, take_done, mended, step}
+use Rattle.rules.proofs.RankedSteps.{Call, Write, Ask, Collect, Deliver, Apply, Encode, Sweep, Found, Turn, entered, counted, queued, sifted, reading, moved, new_read, opening, in_hand, write_tag, write_done, open_done, free_slot, collect_done, wait_tag, apply_done, move_done, enter_done, swept, sweep_done, reply, question_done, open_slot, take_done, mended, step}
 use Rattle.rules.proofs.Words.{upd_same, upd_other}
-use Rattle.rules.proofs.Sweep
 use Rattle.rules.proofs.RankedFacts.{Tested, only, Allowed, Recovers, Waits}
 use Rattle.rules.proofs.Calls.{overtaken_open}
 use Rattle.rules.proofs.Values.{live}

@@ -1,5 +1,5 @@
 -- Along a lane: what is appended, what is taken.
-use Rattle.std.proofs.Common.{◌≡◌, ℕ, ◌+◌, ◌≤◌, ◌⊎◌, List, [], ◌∷◌, ◌++◌, refl, ap, ◌∙◌, inl, inr, ⊎_elim, arith}
+use Rattle.std.proofs.Common.{◌≡◌, ℕ, ◌≤◌, ◌⊎◌, List, [], ◌∷◌, ◌++◌, refl, ap, ◌∙◌, inl, inr, ⊎_elim, arith}
 use Rattle.rules.proofs.RankedMessages.{Message}
 use Rattle.rules.proofs.Core.{heard, after, Chain, On}
 

@@ -1,5 +1,5 @@
 -- Which servers a set has. Assumes nothing.
-use Rattle.std.specs.Prelude.{ℕ, Bool, true, false, ◌||◌, List, [], ◌∷◌, ◌==◌, slice_index_or}
+use Rattle.std.specs.Prelude.{ℕ, Bool, false, ◌||◌, List, [], ◌∷◌, ◌==◌, slice_index_or}
 use Rattle.terms.specs.declared.servers.ServerSet.{ServerSet}
 
 abbrev pub member : ServerSet → ℕ → Bool

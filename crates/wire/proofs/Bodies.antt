@@ -1,15 +1,13 @@
 -- The bodies of the messages, there and back. Assumes nothing.
-use Rattle.std.proofs.Common.{◌≡◌, ℕ, zero, suc, ◌+◌, ◌-◌, ◌*◌, ◌<◌, ◌≤◌, Bool, true, false, cond, ◌&&◌, ◌||◌, eqb, ltb, leb, List, [], ◌∷◌, ◌++◌, length, Ok, Err, Result, sym, refl, ap, ◌∙◌, subst, ⊎_elim, append_assoc, arith}
+use Rattle.std.proofs.Common.{◌≡◌, ℕ, ◌<◌, ◌≤◌, true, cond, eqb, List, [], ◌∷◌, ◌++◌, Ok, Result, sym, refl, ap, ◌∙◌, subst, ⊎_elim, append_assoc, arith}
 use Rattle.std.proofs.lemmas.Bool.{leb-true, and_from, and_parts, eqb-true, cases_Bool}
 use Rattle.message.specs.declared.tag.Tag.{Tag}
 use Rattle.message.specs.Meanings.{Meaning, write_notice, tag_notice, question, plain_reply, coded_reply}
 use Rattle.terms.specs.Limits.{min_servers, max_servers, last_server, min_objects, max_objects, last_object, max_height, max_count, max_read}
 use Rattle.terms.specs.Lists.{each}
 use Rattle.message.specs.Ranges.{between, object_ok, height_ok, read_ok, count_ok, tag_ok, cells_ok, clock_ok, tags_ok, in_range}
-use Rattle.wire.specs.declared.faults.FieldFault.{FieldFault}
 use Rattle.wire.specs.declared.faults.MessageFault.{MessageFault}
-use Rattle.wire.specs.declared.faults.MessageFault.TheVariants.{UnknownKind}
-use Rattle.wire.specs.Reading.{bind, number, tag, opaque, clock, tags, ranged, up, write_body, notice_body, question_body, plain_body, coded_body, by_kind, body, start}
+use Rattle.wire.specs.Reading.{number, tag, opaque, clock, tags, ranged, up, write_body, notice_body, question_body, plain_body, coded_body, by_kind, body, start}
 use Rattle.wire.specs.Writing.{tag_bytes, opaque_bytes, counted_bytes, body_bytes}
 use Rattle.wire.proofs.Codec.{Codec, number_codec, tag_codec, ranged_codec, up_codec, Numbered, Each, ok_same, ok_err, seq_there, last_there, seq_back}
 use Rattle.wire.specs.Words.{Bytes, four}

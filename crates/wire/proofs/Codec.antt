@@ -1,15 +1,12 @@
 -- Readers that undo writers, and all that they undo. Assumes nothing.
-use Rattle.std.proofs.Common.{◌≡◌, ℕ, zero, suc, ◌+◌, ◌-◌, ◌*◌, ◌/◌, ◌%◌, ◌<◌, ◌≤◌, Bool, true, false, cond, ◌&&◌, ltb, leb, List, [], ◌∷◌, ◌++◌, length, take, drop, replicate, Ok, Err, Result, sym, refl, ap, ◌∙◌, subst, ⊎_elim, append_assoc, append-nil, mod-eq_of_lt, arith}
+use Rattle.std.proofs.Common.{◌≡◌, ℕ, zero, suc, ◌+◌, ◌*◌, ◌/◌, ◌%◌, ◌<◌, ◌≤◌, Bool, true, false, cond, List, [], ◌∷◌, ◌++◌, length, Ok, Err, Result, sym, refl, ap, ◌∙◌, subst, append_assoc, mod-eq_of_lt, arith}
 use native.Mathlib.Nat.{div-div-eq-div-mul}
 use Rattle.std.proofs.lemmas.Nat.{div_below, div-add-mod'}
-use Rattle.std.proofs.lemmas.Bool.{le-ltb, lt-ltb, ltb-false, le-leb, and_from, cases_Bool, cond-true, cond-false}
+use Rattle.std.proofs.lemmas.Bool.{le-ltb, cond-true, cond-false}
 use Rattle.std.specs.List.{flat_map}
 use Rattle.message.specs.declared.tag.Tag.{Tag}
 use Rattle.wire.specs.declared.faults.FieldFault.{FieldFault}
-use Rattle.wire.specs.declared.faults.FieldFault.TheVariants.{TooShort, Malformed}
-use Rattle.wire.specs.declared.faults.MessageFault.{MessageFault}
-use Rattle.wire.specs.declared.faults.MessageFault.TheVariants.{Field, OutOfRange}
-use Rattle.wire.specs.Reading.{bind, number, tag, many, counted, ranged, checked, up, start}
+use Rattle.wire.specs.Reading.{bind, number, tag, many, ranged, checked, up, start}
 use Rattle.wire.specs.Words.{Bytes, big, four}
 use Rattle.wire.specs.Writing.{tag_bytes}
 

@@ -1,17 +1,16 @@
 -- Opaque data and counted lists, there and back. Assumes nothing.
-use Rattle.std.proofs.Common.{◌≡◌, ℕ, zero, suc, ◌+◌, ◌-◌, ◌*◌, ◌/◌, ◌%◌, ◌<◌, ◌≤◌, Bool, true, false, cond, ◌&&◌, eqb, ltb, leb, List, [], ◌∷◌, ◌++◌, length, take, drop, replicate, Ok, Err, Result, sym, refl, ap, ◌∙◌, subst, append_assoc, append-nil, add-mul, one-mul, arith, length-append}
-use Rattle.std.proofs.lemmas.List.{take_at, drop_at, length-replicate, length-take-le, take-append-drop}
+use Rattle.std.proofs.Common.{◌≡◌, ℕ, zero, suc, ◌-◌, ◌*◌, ◌<◌, ◌≤◌, true, List, [], ◌∷◌, ◌++◌, length, take, drop, replicate, Ok, Result, sym, refl, ap, ◌∙◌, append_assoc, add-mul, one-mul, arith, length-append}
+use Rattle.std.proofs.lemmas.List.{take_at, drop_at, length-replicate, length-take-le}
 use Rattle.std.proofs.lemmas.List.Edits.{split_between, length-between}
-use Rattle.std.proofs.lemmas.Bool.{le-ltb, lt-ltb, ltb-false, leb-true, le-leb, and_from, and_parts, eqb-true, cond-true, cond-false}
+use Rattle.std.proofs.lemmas.Bool.{le-ltb, ltb-false, leb-true, and_parts, eqb-true, cond-true, cond-false}
 use Rattle.std.specs.List.{between as part, flat_map}
 use Rattle.terms.specs.Limits.{min_cells, max_cells}
 use Rattle.message.specs.Ranges.{between, cells_ok}
 use Rattle.wire.specs.declared.faults.FieldFault.{FieldFault}
-use Rattle.wire.specs.declared.faults.FieldFault.TheVariants.{TooShort, Malformed}
-use Rattle.wire.specs.Reading.{bind, number, opaque, opaque_of, many, counted, items_of, zeros, start}
+use Rattle.wire.specs.Reading.{number, opaque, opaque_of, counted, items_of, zeros, start}
 use Rattle.wire.specs.Writing.{opaque_bytes, counted_bytes}
 use Rattle.wire.specs.Words.{Bytes, four, padded}
-use Rattle.wire.proofs.Codec.{Codec, number_codec, bytes_after, ok_same, bind_ok, cond_ok, cond_then, many_there, many_back, Each, seq_there, seq_back}
+use Rattle.wire.proofs.Codec.{Codec, number_codec, ok_same, cond_ok, cond_then, many_there, many_back, Each, seq_there, seq_back}
 
 zeros_replicate : (n : ℕ) → zeros (replicate n 0) ≡ true
 zeros_replicate zero = refl

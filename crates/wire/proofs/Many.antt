@@ -1,9 +1,7 @@
 -- A loop that reads items one behind another. Assumes nothing.
-use Rattle.std.proofs.Common.{◌≡◌, ℕ, zero, suc, ◌+◌, ◌-◌, ◌*◌, ◌<◌, ◌≤◌, Bool, true, cond, ◌&&◌, ltb, leb, List, [], ◌∷◌, ◌++◌, length, Ok, Err, Result, sym, refl, ap, ◌∙◌, append_assoc, append-nil, arith}
+use Rattle.std.proofs.Common.{◌≡◌, ℕ, suc, ◌+◌, ◌-◌, ◌*◌, ◌<◌, ◌≤◌, List, [], ◌∷◌, ◌++◌, length, Ok, Err, Result, sym, refl, ap, ◌∙◌, append_assoc, append-nil, arith}
 use Rattle.std.proofs.lemmas.Bool.{le-ltb, le-leb, and_from, cond-true, cond-false}
-use Rattle.message.specs.Ranges.{between}
 use Rattle.wire.specs.declared.faults.FieldFault.{FieldFault}
-use Rattle.wire.specs.declared.faults.FieldFault.TheVariants.{TooShort, Malformed}
 use Rattle.wire.specs.Reading.{bind, many, counted, items_of, number, start}
 
 -- what is read so far, and then `more`

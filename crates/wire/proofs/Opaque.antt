@@ -1,13 +1,10 @@
 -- Opaque data, read. Assumes nothing.
-use Rattle.std.proofs.Common.{◌≡◌, ℕ, ◌+◌, ◌-◌, ◌*◌, ◌/◌, ◌<◌, ◌≤◌, Bool, true, cond, ◌&&◌, ltb, leb, List, length, take, drop, Ok, Err, Result, sym, refl, ap, ◌∙◌}
+use Rattle.std.proofs.Common.{◌≡◌, ℕ, ◌-◌, ◌≤◌, true, List, length, take, drop, Ok, sym, ap, ◌∙◌}
 use native.Mathlib.Nat.{sub-zero}
 use Rattle.std.proofs.lemmas.List.{take_rest}
 use Rattle.std.proofs.lemmas.Bool.{le-ltb, le-leb, and_from, cond-true, cond-false}
 use Rattle.std.specs.List.{between as part}
 use Rattle.terms.specs.Limits.{min_cells, max_cells}
-use Rattle.message.specs.Ranges.{between}
-use Rattle.wire.specs.declared.faults.FieldFault.{FieldFault}
-use Rattle.wire.specs.declared.faults.FieldFault.TheVariants.{TooShort, Malformed}
 use Rattle.wire.specs.Words.{padded}
 use Rattle.wire.specs.Reading.{bind, number, opaque, opaque_of, zeros, start}
 

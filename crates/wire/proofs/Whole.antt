@@ -1,7 +1,7 @@
 -- Reading undoes writing. Assumes nothing.
-use Rattle.std.proofs.Common.{◌≡◌, ℕ, zero, suc, ◌+◌, ◌-◌, ◌*◌, ◌/◌, ◌%◌, ◌<◌, ◌≤◌, Bool, true, false, cond, ◌&&◌, eqb, ltb, leb, List, [], ◌∷◌, ◌++◌, length, get_or, take, drop, replicate, Ok, Err, Result, sym, refl, ap, ◌∙◌, subst, append_assoc, append-nil, add-mul, one-mul, add-one, arith, length-append}
+use Rattle.std.proofs.Common.{◌≡◌, ℕ, zero, suc, ◌+◌, ◌-◌, ◌*◌, ◌/◌, ◌%◌, ◌<◌, ◌≤◌, true, ◌&&◌, leb, List, [], ◌∷◌, ◌++◌, length, get_or, take, drop, replicate, Ok, Err, Result, sym, refl, ap, ◌∙◌, subst, append-nil, add-mul, one-mul, add-one, arith, length-append}
 use Rattle.std.proofs.lemmas.List.{take_at, take-append-drop, length-take-le, length-replicate, nil_from_length}
-use Rattle.std.proofs.lemmas.Bool.{leb-true, le-ltb, ltb-false, and_parts, eqb-true, cond-true, cond-false}
+use Rattle.std.proofs.lemmas.Bool.{leb-true, le-ltb, ltb-false, and_parts, eqb-true, cond-false}
 use Rattle.std.specs.List.{flat_map}
 use Rattle.message.specs.declared.tag.Tag.{Tag}
 use Rattle.message.specs.Meanings.{Meaning, meaning, write_notice, tag_notice, question, plain_reply, coded_reply}
@@ -9,9 +9,8 @@ use Rattle.terms.specs.Limits.{min_cells, max_cells, min_servers, max_servers, m
 use Rattle.terms.specs.Lists.{each}
 use Rattle.message.specs.Ranges.{in_range, between, object_ok, height_ok, read_ok, count_ok, tag_ok, cells_ok, clock_ok, tags_ok}
 use Rattle.wire.specs.declared.faults.MarkFault.{MarkFault}
-use Rattle.wire.specs.declared.faults.MarkFault.TheVariants as marks
 use Rattle.wire.specs.declared.faults.MessageFault.{MessageFault}
-use Rattle.wire.specs.Reading.{mark, marked_off, body, finish, reading, reading_of, start, ReadAs}
+use Rattle.wire.specs.Reading.{mark, marked_off, body, finish, reading, reading_of, ReadAs}
 use Rattle.wire.specs.Writing.{tag_bytes, opaque_bytes, counted_bytes, body_bytes, marked, encode}
 use Rattle.wire.specs.Exact.{Written, Tells}
 use Rattle.message.specs.declared.kinds.Message.{Message}

@@ -1,5 +1,5 @@
 // Which sets of servers recover which objects, and the objects' values from the sets' symbols.
-ghost use Rattle.std.specs.Prelude.{◌≡◌, ℕ, ◌<◌, true, not, ◌||◌, map, Decides, MatchOption, nat_lt, slice_index};
+ghost use Rattle.std.specs.Prelude.{◌≡◌, ℕ, ◌<◌, true, not, ◌||◌, map, replicate, Decides, MatchOption, nat_eq, nat_lt, slice_index};
 ghost use Rattle.terms.specs.Answers.{Answered};
 ghost use Rattle.terms.specs.Items.{items};
 ghost use Rattle.field.specs.Sums.{dot};
@@ -8,7 +8,7 @@ ghost use Rattle.code.specs.Chosen.{ChosenRow, ChosenRows, shown, weighed};
 ghost use Rattle.code.specs.Codings.{value_at};
 ghost use Rattle.code.specs.Meaning.{meaning};
 ghost use Rattle.code.specs.Recovery.{Recovers, Decoded};
-ghost use Rattle.code.specs.Refusing.{known_set, recovers_refusal, decode_refusal};
+ghost use Rattle.code.specs.Refusing.{known_set, place_refusal, recovers_refusal, decode_refusal};
 ghost use Rattle.terms.specs.Sets.{member};
 
 use super::Code;
@@ -66,10 +66,41 @@ impl<F: Field + Copy> Code<F> {
         }
     }
 
+    // The same from any symbols, whatever their number and cells; what is not there counts as 0.
+    pub fn decode_any(
+        &self,
+        set: &ServerSet,
+        symbols: &[Cells],
+        object: usize,
+    ) -> Result<Option<Cells>, Refusal>
+        ensures decoded_or_refused { Answered (recovers_refusal (meaning F.arithmetic self.now) (member set.now) object) (λ o. MatchOption o (Recovers (meaning F.arithmetic self.now) (member set.now) object → ⊥) (λ v. Recovers (meaning F.arithmetic self.now) (member set.now) object × Decoded (meaning F.arithmetic self.now) (member set.now) (value_at (map items symbols.now)) object (items v))) result }
+    {
+        if !known(set, self.servers) {
+            return Err(Refusal::NoSuchServer);
+        }
+        if object >= self.objects {
+            return Err(Refusal::NoSuchObject);
+        }
+        Ok(self.decoded(set, symbols, object))
+    }
+
+    // The value of the object from the symbol of one server, if that server alone recovers it.
+    pub fn decode_alone(
+        &self,
+        server: usize,
+        symbol: &Cells,
+        object: usize,
+    ) -> Result<Option<Cells>, Refusal>
+        ensures decoded_or_refused { Answered (place_refusal (meaning F.arithmetic self.now) server object) (λ o. MatchOption o (Recovers (meaning F.arithmetic self.now) (λ j. nat_eq j server) object → ⊥) (λ v. Recovers (meaning F.arithmetic self.now) (λ j. nat_eq j server) object × Decoded (meaning F.arithmetic self.now) (λ j. nat_eq j server) (λ _. items symbol.now) object (items v))) result }
+    {
+        let alone = ServerSet::empty().with(server)?;
+        self.decode_any(&alone, &copies(symbol), object)
+    }
+
     fn decoded(&self, set: &ServerSet, symbols: &[Cells], object: usize) -> Option<Cells>
         requires known { known_set self.now.servers (member set.now) ≡ true }
         requires object_within { object < self.now.objects }
-        ensures { MatchOption result (Recovers (meaning F.arithmetic self.now) (member set.now) object → ⊥) (λ v. Decoded (meaning F.arithmetic self.now) (member set.now) (value_at (map items symbols.now)) object (items v)) }
+        ensures { MatchOption result (Recovers (meaning F.arithmetic self.now) (member set.now) object → ⊥) (λ v. Recovers (meaning F.arithmetic self.now) (member set.now) object × Decoded (meaning F.arithmetic self.now) (member set.now) (value_at (map items symbols.now)) object (items v)) }
     {
         match solve::<F>(self.rows_of(set), object) {
             None => None,
@@ -112,6 +143,13 @@ impl<F: Field + Copy> Code<F> {
         }
         value
     }
+}
+
+// The symbol once for each server.
+fn copies(symbol: &Cells) -> [Cells; 6]
+    ensures { result ≡ replicate 6 symbol.now }
+{
+    [*symbol; MAX_SERVERS]
 }
 
 fn weigh_cell<F: Field>(factors: [u8; 6], set: &ServerSet, symbols: &[Cells], c: usize) -> u8

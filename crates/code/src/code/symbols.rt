@@ -5,7 +5,7 @@ ghost use Rattle.terms.specs.Items.{items};
 ghost use Rattle.terms.specs.Lists.{listed};
 ghost use Rattle.code.specs.Codings.{Values, combination, symbol, re_encoded, Turned, value_at};
 ghost use Rattle.code.specs.Meaning.{meaning};
-ghost use Rattle.code.specs.Refusing.{symbol_refusal, re_encode_refusal};
+ghost use Rattle.code.specs.Refusing.{place_refusal, symbol_refusal, re_encode_refusal};
 
 use super::Code;
 use field::interface::Field;
@@ -71,10 +71,31 @@ impl<F: Field + Copy> Code<F> {
         if let Some(refusal) = self.refuse_values(3, &[*symbol, *old, *new]) {
             return Err(refusal);
         }
-        Ok(self.exchange(server, object, symbol, old, new))
+        Ok(self.turned(server, object, symbol, old, new))
     }
 
-    fn exchange(
+    // The same of any cells, whatever their number and size; past the end of a value they count as 0.
+    pub fn exchange(
+        &self,
+        server: usize,
+        object: usize,
+        symbol: &Cells,
+        old: &Cells,
+        new: &Cells,
+    ) -> Result<Cells, Refusal>
+        ensures re_encoded_or_refused { Answered (place_refusal (meaning F.arithmetic self.now) server object) (λ v. items v ≡ re_encoded (meaning F.arithmetic self.now) server object (items symbol.now) (items old.now) (items new.now)) result }
+    {
+        if server >= self.servers {
+            return Err(Refusal::NoSuchServer);
+        }
+        if object >= self.objects {
+            return Err(Refusal::NoSuchObject);
+        }
+        let exchanged = self.turned(server, object, symbol, old, new);
+        Ok(exchanged)
+    }
+
+    fn turned(
         &self,
         server: usize,
         object: usize,

@@ -18,8 +18,8 @@ impl<F: Field + Copy> Group<F> {
         carrier: &C,
         s: usize,
     ) -> Result<Option<Tag>, Refusal>
-        ensures answer { apply_told result ≡ (reached (nat_le self.old.code.servers (n carrier.now)) (state self.old (lanes carrier.now)) (apply (layout F.arithmetic self.old (p carrier.now)) (state self.old (lanes carrier.now)) s)).answer }
-        ensures after { state self.new (lanes carrier.now) ≡ (reached (nat_le self.old.code.servers (n carrier.now)) (state self.old (lanes carrier.now)) (apply (layout F.arithmetic self.old (p carrier.now)) (state self.old (lanes carrier.now)) s)).next }
+        ensures answer { apply_told result ≡ (reached (nat_le self.old.code.servers (C.n carrier.now)) (state self.old (C.lanes carrier.now)) (apply (layout F.arithmetic self.old (C.p carrier.now)) (state self.old (C.lanes carrier.now)) s)).answer }
+        ensures after { state self.new (C.lanes carrier.now) ≡ (reached (nat_le self.old.code.servers (C.n carrier.now)) (state self.old (C.lanes carrier.now)) (apply (layout F.arithmetic self.old (C.p carrier.now)) (state self.old (C.lanes carrier.now)) s)).next }
         ensures same_code { self.new.code ≡ self.old.code }
     {
         if let Err(refusal) = self.reach(carrier, s) {

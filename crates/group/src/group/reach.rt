@@ -12,9 +12,9 @@ use terms::refusal::Refusal;
 impl<F: Field + Copy> Group<F> {
     // The server s, if the group has it and the carrier has all servers of the group.
     pub(crate) fn reach<C: Carrier>(&self, carrier: &C, s: usize) -> Result<ServerNumber, Refusal>
-        ensures answer { Answered (reach_refusal self.now.code.servers (n carrier.now) s) (λ k. k.number ≡ s) result }
+        ensures answer { Answered (reach_refusal self.now.code.servers (C.n carrier.now) s) (λ k. k.number ≡ s) result }
         ensures within { OnOk result (s < self.now.code.servers) }
-        ensures carried { OnOk result (self.now.code.servers ≤ n carrier.now) }
+        ensures carried { OnOk result (self.now.code.servers ≤ C.n carrier.now) }
     {
         if carrier.servers() < self.code.servers() || s >= self.code.servers() {
             return Err(Refusal::NoSuchServer);

@@ -18,8 +18,8 @@ impl<F: Field + Copy> Group<F> {
         s: usize,
         object: usize,
     ) -> Result<usize, Refusal>
-        ensures answer { sweep_told result ≡ (reached (nat_le self.old.code.servers (n carrier.now)) (state self.old (lanes carrier.now)) (sweep (layout F.arithmetic self.old (p carrier.now)) (state self.old (lanes carrier.now)) s object)).answer }
-        ensures after { state self.new (lanes carrier.now) ≡ (reached (nat_le self.old.code.servers (n carrier.now)) (state self.old (lanes carrier.now)) (sweep (layout F.arithmetic self.old (p carrier.now)) (state self.old (lanes carrier.now)) s object)).next }
+        ensures answer { sweep_told result ≡ (reached (nat_le self.old.code.servers (C.n carrier.now)) (state self.old (C.lanes carrier.now)) (sweep (layout F.arithmetic self.old (C.p carrier.now)) (state self.old (C.lanes carrier.now)) s object)).answer }
+        ensures after { state self.new (C.lanes carrier.now) ≡ (reached (nat_le self.old.code.servers (C.n carrier.now)) (state self.old (C.lanes carrier.now)) (sweep (layout F.arithmetic self.old (C.p carrier.now)) (state self.old (C.lanes carrier.now)) s object)).next }
         ensures same_code { self.new.code ≡ self.old.code }
     {
         if let Err(refusal) = self.reach(carrier, s) {

@@ -85,7 +85,7 @@ impl<F: Field + Copy> Group<F> {
         object: usize,
         value: &[u8],
     ) -> Option<Refusal>
-        ensures { result ≡ check (nat_le self.now.code.servers (n carrier.now)) NoSuchServer (write_refusal (layout F.arithmetic self.now (p carrier.now)) (state self.now (lanes carrier.now)) s object value.now) }
+        ensures { result ≡ check (nat_le self.now.code.servers (C.n carrier.now)) NoSuchServer (write_refusal (layout F.arithmetic self.now (C.p carrier.now)) (state self.now (C.lanes carrier.now)) s object value.now) }
     {
         let me = match self.reach(carrier, s) {
             Ok(me) => me,
@@ -111,11 +111,11 @@ impl<F: Field + Copy> Group<F> {
         object: usize,
         value: &[u8],
     ) -> Result<Tag, Refusal>
-        ensures answer { write_told result ≡ (reached (nat_le self.old.code.servers (n carrier.old)) (state self.old (lanes carrier.old)) (write (layout F.arithmetic self.old (p carrier.old)) (state self.old (lanes carrier.old)) s object value.now)).answer }
-        ensures after { state self.new (lanes carrier.new) ≡ (reached (nat_le self.old.code.servers (n carrier.old)) (state self.old (lanes carrier.old)) (write (layout F.arithmetic self.old (p carrier.old)) (state self.old (lanes carrier.old)) s object value.now)).next }
+        ensures answer { write_told result ≡ (reached (nat_le self.old.code.servers (C.n carrier.old)) (state self.old (C.lanes carrier.old)) (write (layout F.arithmetic self.old (C.p carrier.old)) (state self.old (C.lanes carrier.old)) s object value.now)).answer }
+        ensures after { state self.new (C.lanes carrier.new) ≡ (reached (nat_le self.old.code.servers (C.n carrier.old)) (state self.old (C.lanes carrier.old)) (write (layout F.arithmetic self.old (C.p carrier.old)) (state self.old (C.lanes carrier.old)) s object value.now)).next }
         ensures same_code { self.new.code ≡ self.old.code }
-        ensures same_servers { n carrier.new ≡ n carrier.old }
-        ensures same_places { p carrier.new ≡ p carrier.old }
+        ensures same_servers { C.n carrier.new ≡ C.n carrier.old }
+        ensures same_places { C.p carrier.new ≡ C.p carrier.old }
     {
         if let Some(refusal) = self.refuse_write(carrier, s, object, value) {
             return Err(refusal);
@@ -131,12 +131,12 @@ impl<F: Field + Copy> Group<F> {
         object: usize,
         value: &[u8],
     ) -> Tag
-        requires { Writable (layout F.arithmetic self.old (p carrier.old)) (state self.old (lanes carrier.old)) s object value.now (n carrier.old) }
-        ensures tag { result ≡ write_tag ((state self.old (lanes carrier.old)).servers s) s }
-        ensures after { state self.new (lanes carrier.new) ≡ write_done (layout F.arithmetic self.old (p carrier.old)) (state self.old (lanes carrier.old)) s object value.now }
+        requires { Writable (layout F.arithmetic self.old (C.p carrier.old)) (state self.old (C.lanes carrier.old)) s object value.now (C.n carrier.old) }
+        ensures tag { result ≡ write_tag ((state self.old (C.lanes carrier.old)).servers s) s }
+        ensures after { state self.new (C.lanes carrier.new) ≡ write_done (layout F.arithmetic self.old (C.p carrier.old)) (state self.old (C.lanes carrier.old)) s object value.now }
         ensures same_code { self.new.code ≡ self.old.code }
-        ensures same_servers { n carrier.new ≡ n carrier.old }
-        ensures same_places { p carrier.new ≡ p carrier.old }
+        ensures same_servers { C.n carrier.new ≡ C.n carrier.old }
+        ensures same_places { C.p carrier.new ≡ C.p carrier.old }
     {
         let servers = self.code.servers();
         let me = ServerNumber { number: s };

@@ -1,4 +1,4 @@
-use Rattle.std.proofs.Common.{◌≡◌, ℕ, ◌<◌, sym, ◌∙◌, rules}
+use Rattle.std.proofs.Common.{◌<◌, sym, ◌∙◌, rules}
 use Rattle.field.specs.Binary.{multiply}
 use Rattle.field.specs.Totals.{in₂}
 use Rattle.field.specs.Polynomials.{by_logarithms}

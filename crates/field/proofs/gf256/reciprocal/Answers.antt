@@ -1,4 +1,4 @@
-use Rattle.std.proofs.Common.{◌≡◌, ℕ, ◌<◌, sym, ◌∙◌, rules}
+use Rattle.std.proofs.Common.{◌<◌, sym, ◌∙◌, rules}
 use Rattle.field.specs.Polynomials.{inverse_by_logarithm}
 use Rattle.field.proofs.gf256.reciprocal.Goals as goal
 

@@ -1,4 +1,4 @@
-use Rattle.std.proofs.Common.{◌≡◌, ℕ, ◌+◌, List, [], length, get_or, sym, refl, ap, ◌∙◌, subst, ap₂, arith, rules}
+use Rattle.std.proofs.Common.{◌≡◌, ℕ, ◌+◌, List, [], get_or, sym, ap, ◌∙◌, subst, ap₂, arith, rules}
 use Rattle.matrix.specs.Matrices.{entry}
 use Rattle.matrix.specs.Elimination.{Added}
 use Rattle.matrix.proofs.Clearing.{Clearing, clearing_none, clearing_more, clearing_skip, clearing_all}

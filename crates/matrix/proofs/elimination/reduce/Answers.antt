@@ -1,4 +1,4 @@
-use Rattle.std.proofs.Common.{◌≡◌, ℕ, ◌+◌, List, get_or, replicate, sym, refl, subst₂, arith}
+use Rattle.std.proofs.Common.{◌≡◌, ℕ, ◌+◌, List, replicate, sym, refl, subst₂, arith}
 use lib.ListN.{get_or-replicate}
 use Rattle.matrix.proofs.Reducing.{Reducing, reducing_none, reducing_more, reducing_free, reducing_skip, reducing_all}
 use Rattle.matrix.proofs.elimination.reduce.Goals as goal

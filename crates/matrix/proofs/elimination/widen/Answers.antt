@@ -1,5 +1,5 @@
 use Rattle.std.proofs.Common.{refl, arith}
-use Rattle.matrix.proofs.Widening.{Widening, widening_more}
+use Rattle.matrix.proofs.Widening.{widening_more}
 use Rattle.matrix.proofs.elimination.widen.Goals as goal
 
 pub loop-i-init : goal.loop-i-init

@@ -1,4 +1,4 @@
-use Rattle.std.proofs.Common.{◌≡◌, ℕ, ◌+◌, ◌<◌, sym, ap, ◌∙◌, arith}
+use Rattle.std.proofs.Common.{ℕ, ◌+◌, ap, ◌∙◌}
 use Rattle.matrix.specs.Matrices.{entry}
 use Rattle.matrix.proofs.Widening.{widened_elements}
 use Rattle.matrix.proofs.Decides.{solved, undetermined}

@@ -1,4 +1,4 @@
-use Rattle.std.proofs.Common.{◌≡◌, Bool, true, false, get_or, sym, ap, ◌∙◌}
+use Rattle.std.proofs.Common.{◌≡◌, true, false, get_or, sym, ap, ◌∙◌}
 use Rattle.terms.proofs.Each.{each_stop, each_next, each_done}
 use Rattle.message.proofs.ranges.each_in_range.Goals as goal
 

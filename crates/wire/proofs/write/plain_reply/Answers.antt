@@ -1,6 +1,6 @@
 use Rattle.terms.specs.Items.{items}
 use Rattle.wire.specs.Words.{four}
-use Rattle.wire.specs.Writing.{tag_bytes, opaque_bytes}
+use Rattle.wire.specs.Writing.{opaque_bytes}
 use Rattle.wire.proofs.Puts.{chain3}
 use Rattle.wire.proofs.write.plain_reply.Goals as goal
 

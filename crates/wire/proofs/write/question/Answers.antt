@@ -1,10 +1,10 @@
-use Rattle.std.proofs.Common.{◌≡◌, ◌≤◌, ◌++◌, length, refl, ap, ◌∙◌, arith}
+use Rattle.std.proofs.Common.{◌≤◌, ◌++◌, length, refl, ap, ◌∙◌, arith}
 use Rattle.std.specs.List.{flat_map}
 use Rattle.terms.specs.Items.{items}
 use Rattle.terms.specs.Limits.{max_objects}
 use Rattle.wire.specs.Bodies.{body_so_far}
 use Rattle.wire.specs.Words.{four}
-use Rattle.wire.specs.Writing.{tag_bytes, opaque_bytes, counted_bytes}
+use Rattle.wire.specs.Writing.{tag_bytes, counted_bytes}
 use Rattle.wire.proofs.Puts.{chain4, few_items}
 use Rattle.wire.proofs.Whole.{joined_long}
 use Rattle.wire.proofs.write.question.Goals as goal

@@ -1,43 +1,51 @@
-use Rattle.std.proofs.Common.{◌≡◌, ◌+◌, ◌-◌, ◌*◌, ◌<◌, ◌≤◌, length, get_or, sym, refl, ap, ◌∙◌, arith, length-set}
+use Rattle.std.proofs.Common.{◌-◌, get_or, refl, ◌∙◌, arith, length-set}
 use Rattle.std.proofs.lemmas.List.{with_items_is}
 use Rattle.carrier.specs.Calls.{inside, known, empty, front, may_take, removed, left, within_set}
 use Rattle.carrier.proofs.blocks.Blocks.remove.Goals as goal
 
 pub returns-then-count-eq0 : goal.returns-then-count-eq0
 returns-then-count-eq0 g c =
-    let told = c.in-ok-k.ensures.answer in
+    let told = c.in_ok-k.ensures.answer in
     let e = empty g.P.Place.held c.args.self.now _ _ _ told.1 told.0 c.if-count-eq0.true in
     record { answer = e; lanes_after = left _ _ _ _ e; same_servers = refl; same_places = refl }
 
 pub index-requires : goal.index-requires
 index-requires g c =
-    let told = c.in-ok-k.ensures.answer in
+    let told = c.in_ok-k.ensures.answer in
     let b = c.args.self.now in
     omega (arith, inside g.P.Place.held b _ _ _ told.1 told.0, b.some_places)
 
 pub shift-requires : goal.shift-requires
 shift-requires g c =
-    let told = c.in-ok-k.ensures.answer in
+    let told = c.in_ok-k.ensures.answer in
     let b = c.args.self.now in
-    (omega (arith, inside g.P.Place.held b _ _ _ told.1 told.0, b.within c.in-ok-k.k, c.as-mut-slice.ensures.len), omega (arith, c.if-count-eq0.false))
+    (omega (arith, inside g.P.Place.held b _ _ _ told.1 told.0, b.within c.in_ok-k.k, c.as_mut_slice.ensures.len), omega (arith, c.if-count-eq0.false))
 
-pub invariant-of-self : goal.invariant-of-self
-invariant-of-self g c =
-    let told = c.in-ok-k.ensures.answer in
+pub invariant_of-self : goal.invariant_of-self
+invariant_of-self g c =
+    let told = c.in_ok-k.ensures.answer in
     let b = c.args.self.now in
-    let k = c.in-ok-k.k in
-    (b.enough_servers, (b.few_servers, (b.some_places, (b.few_places, (b.room, (simp length-set b.counted, (within_set b.used k (get_or b.used k 0 - 1) b.p (known g.P.Place.held b _ _ _ told.1 told.0) (omega (arith, b.within k)) b.within, tt)))))))
+    let k = c.in_ok-k.k in
+    record {
+      enough_servers = b.enough_servers;
+      few_servers = b.few_servers;
+      some_places = b.some_places;
+      few_places = b.few_places;
+      room = b.room;
+      counted = simp length-set b.counted;
+      within = within_set b.used k (get_or b.used k 0 - 1) b.p (known g.P.Place.held b _ _ _ told.1 told.0) (omega (arith, b.within k)) b.within;
+    }
 
 pub returns : goal.returns
 returns g c =
-    let told = c.in-ok-k.ensures.answer in
+    let told = c.in_ok-k.ensures.answer in
     let b = c.args.self.now in
     let held = g.P.Place.held in
-    let is = with_items_is b.memory c.shift.new.places (c.shift.auto.places ∙ c.as-mut-slice.ensures.len) in
+    let is = with_items_is b.memory c.shift.new.places (c.shift.auto.places ∙ c.as_mut_slice.ensures.len) in
     let lane = front held b _ _ _ told.1 told.0 _ _ c.message-m.ensures.as_put c.if-count-eq0.false c.index.ensures in
     record {
       answer = (may_take held b _ _ _ told.1 told.0 _ lane, lane);
-      lanes_after = removed held b _ _ _ told.1 told.0 _ lane _ _ _ is c.as-mut-slice.ensures.value c.shift.ensures.below c.shift.ensures.above c.shift.ensures.moved;
+      lanes_after = removed held b _ _ _ told.1 told.0 _ lane _ _ _ is c.as_mut_slice.ensures.value c.shift.ensures.below c.shift.ensures.above c.shift.ensures.moved;
       same_servers = refl;
       same_places = refl;
     }

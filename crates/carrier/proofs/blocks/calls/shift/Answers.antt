@@ -7,7 +7,7 @@ returns g c =
     let at = c.args.at in
     let count = c.args.count in
     record {
-      below = below_kept c.args.places.now c.rotate-left.new.self at count (at + count - at) c.requires.0;
-      above = above_kept c.args.places.now c.rotate-left.new.self at count (at + count - at) c.requires.0 (omega arith) c.rotate-left.ensures.len;
-      moved = shifted c.args.places.now c.rotate-left.new.self at count (at + count - at) c.requires.0 c.requires.1 (omega arith) c.rotate-left.ensures.after;
+      below = below_kept c.args.places.now c.rotate_left.new.self at count (at + count - at) c.requires.0;
+      above = above_kept c.args.places.now c.rotate_left.new.self at count (at + count - at) c.requires.0 (omega arith) c.rotate_left.ensures.len;
+      moved = shifted c.args.places.now c.rotate_left.new.self at count (at + count - at) c.requires.0 c.requires.1 (omega arith) c.rotate_left.ensures.after;
     }

@@ -1,4 +1,4 @@
-use Rattle.std.proofs.Common.{◌≡◌, ℕ, ◌<◌, Bool, true, false, sym, refl, ap, ◌∙◌, arith, below_none, below_more}
+use Rattle.std.proofs.Common.{false, refl, arith, below_more}
 use borrow.Author.Tests.{both_ways}
 use Rattle.code.specs.Layout.{everyone}
 use Rattle.code.specs.Meaning.{meaning}

@@ -1,4 +1,4 @@
-use Rattle.std.proofs.Common.{◌≡◌, ℕ, map, get_or, sym, refl, ap, ◌∙◌, subst, ap₂, add-one, arith}
+use Rattle.std.proofs.Common.{◌≡◌, ℕ, map, get_or, sym, refl, ap, ◌∙◌, ap₂, add-one, arith}
 use Rattle.field.specs.Sums.{sum, dot}
 use Rattle.terms.specs.Items.{items}
 use Rattle.code.specs.Codings.{value_at}

@@ -1,4 +1,4 @@
-use Rattle.std.proofs.Common.{◌≡◌, Bool, true, false, refl}
+use Rattle.std.proofs.Common.{false, refl}
 use borrow.Author.Tests.{both_ways}
 use Rattle.code.specs.Meaning.{meaning}
 use Rattle.terms.specs.Sets.{member}

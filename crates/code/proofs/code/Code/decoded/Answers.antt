@@ -1,11 +1,12 @@
-use Rattle.std.proofs.Common.{◌≡◌, ℕ, false, List, map, sym, subst, arith}
+use Rattle.std.proofs.Common.{ℕ, false, List, map, sym, subst, arith}
 use Rattle.std.proofs.lemmas.List.{get_or_past}
 use Rattle.terms.specs.Items.{items}
 use Rattle.code.specs.Codings.{value_at}
 use Rattle.code.specs.Meaning.{meaning}
 use Rattle.code.specs.Recovery.{Decoded}
 use Rattle.terms.specs.Sets.{member}
-use Rattle.code.proofs.Cellwise.{rows_from_recovers, decoded_by_rows}
+use Rattle.matrix.proofs.Decides.{solved_determines}
+use Rattle.code.proofs.Cellwise.{rows_from_recovers, recovers_from_rows, decoded_by_rows}
 use Rattle.code.proofs.Known.{known_below}
 use Rattle.code.proofs.code.Code.decoded.Goals as goal
 
@@ -22,8 +23,12 @@ returns-in-Some g c =
     let meant = meaning g.F.Field.arithmetic code in
     let chosen = member c.args.set.now in
     let symbols = value_at (map items c.args.symbols.now) in
-    subst (λ (v : List ℕ). Decoded meant chosen symbols c.args.object v) (sym c.weigh.ensures)
-    (decoded_by_rows meant g.met.F.Field.ring code.most_servers code.most_objects chosen c.rows_of.result c.rows_of.ensures
-    c.args.object c.requires.object_within
-    (known_below code.servers chosen c.requires.known (λ s h. get_or_past c.args.set.now.members s false (omega (arith, c.args.set.now.whole))))
-    c.in-Some.factors c.in-Some.ensures.exact symbols)
+    let below = known_below code.servers chosen c.requires.known (λ s h. get_or_past c.args.set.now.members s false (omega (arith, c.args.set.now.whole))) in (
+      recovers_from_rows meant g.met.F.Field.ring code.most_servers code.most_objects chosen c.rows_of.result c.rows_of.ensures c.args.object c.requires.object_within
+          (solved_determines g.met.F.Field.ring c.rows_of.result c.args.object c.in-Some.factors c.in-Some.ensures.exact),
+      subst (λ (v : List ℕ). Decoded meant chosen symbols c.args.object v) (sym c.weigh.ensures)
+          (decoded_by_rows meant g.met.F.Field.ring code.most_servers code.most_objects chosen c.rows_of.result c.rows_of.ensures
+          c.args.object c.requires.object_within
+          below
+          c.in-Some.factors c.in-Some.ensures.exact symbols),
+    )

@@ -1,4 +1,4 @@
-use Rattle.std.proofs.Common.{◌≡◌, ℕ, ◌≤◌, ◌⊎◌, List, length, sym, refl, ap, ◌∙◌, subst, inl, inr, arith}
+use Rattle.std.proofs.Common.{ℕ, ◌≤◌, List, length, sym, refl, ap, subst, inr, arith}
 use borrow.Author.Tests.{both_ways}
 use Rattle.code.specs.Layout.{coding, AllRecovered}
 use Rattle.code.proofs.Sizes.{Sized, sized, accepted, table_short}

@@ -1,4 +1,4 @@
-use Rattle.std.proofs.Common.{◌≡◌, ℕ, List, [], ◌∷◌, sym, ap, ◌∙◌, subst, arith, lit<, rules}
+use Rattle.std.proofs.Common.{ℕ, List, [], ◌∷◌, sym, subst, lit<, rules}
 use Rattle.terms.specs.Items.{items}
 use Rattle.code.specs.Codings.{Turned}
 use Rattle.code.specs.Meaning.{meaning}
@@ -15,7 +15,7 @@ returns g c =
     let new = items a.new.now in
     record {
       re_encoded_or_refused = search rules;
-      turns_the_symbol = subst (λ (v : List ℕ). Turned meant a.server a.object before old new v) (sym c.exchange.ensures)
+      turns_the_symbol = subst (λ (v : List ℕ). Turned meant a.server a.object before old new v) (sym c.turned.ensures)
           (turned meant g.met.F.Field.ring a.server a.object c.if-object-self.false new
           (not_refused meant 3 (before ∷ old ∷ new ∷ []) (sym c.in_default.ensures) 2 (lit< tt)) before old);
     }

@@ -1,5 +1,4 @@
-use Rattle.std.proofs.Common.{◌≡◌, ℕ, Bool, true, false, not, ◌&&◌, ◌||◌, ltb, sym, refl, ap, ◌∙◌, ap₂, arith}
-use Rattle.terms.specs.Lists.{every}
+use Rattle.std.proofs.Common.{ℕ, Bool, not, ◌&&◌, ◌||◌, ltb, sym, ◌∙◌, ap₂}
 use Rattle.terms.proofs.Every.{every_none, every_more}
 use Rattle.terms.specs.Sets.{member}
 use Rattle.code.proofs.code.recovery.known.Goals as goal

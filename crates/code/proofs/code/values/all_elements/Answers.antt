@@ -1,4 +1,4 @@
-use Rattle.std.proofs.Common.{◌≡◌, ℕ, ◌<◌, ◌≤◌, ltb, get_or, arith, le-ltb, lt-ltb}
+use Rattle.std.proofs.Common.{◌<◌, ◌≤◌, ltb, get_or, arith, le-ltb, lt-ltb}
 use Rattle.terms.proofs.Each.{each_stop, each_next, each_done}
 use Rattle.code.proofs.code.values.all_elements.Goals as goal
 

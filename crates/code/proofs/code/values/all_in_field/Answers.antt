@@ -1,4 +1,4 @@
-use Rattle.std.proofs.Common.{◌≡◌, Bool, sym, ap, ◌∙◌}
+use Rattle.std.proofs.Common.{sym, ap, ◌∙◌}
 use Rattle.terms.specs.Items.{items}
 use Rattle.code.specs.Layout.{all_elements}
 use Rattle.terms.proofs.Each.{each_stop, each_next, each_done, each_map}

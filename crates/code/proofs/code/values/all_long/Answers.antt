@@ -1,4 +1,4 @@
-use Rattle.std.proofs.Common.{◌≡◌, ℕ, Bool, eqb, length, sym, ap, ◌∙◌, eq-eqb, ne_eqb}
+use Rattle.std.proofs.Common.{◌≡◌, eqb, length, sym, ap, ◌∙◌, eq-eqb, ne_eqb}
 use Rattle.terms.specs.Items.{items}
 use Rattle.terms.proofs.Each.{each_stop, each_next, each_done, each_map}
 use Rattle.code.proofs.code.values.all_long.Goals as goal

@@ -1,4 +1,4 @@
-use Rattle.std.proofs.Common.{◌≡◌, ℕ, Bool, true, false, ◌&&◌, eqb, List, map, length, sym, refl, ap, ◌∙◌, ap₂, eq-eqb, ne_eqb}
+use Rattle.std.proofs.Common.{◌≡◌, Bool, ◌&&◌, map, length, sym, ap, ◌∙◌, eq-eqb, ne_eqb}
 use Rattle.std.proofs.lemmas.List.{length-map}
 use Rattle.terms.specs.Items.{items}
 use Rattle.code.specs.Refusing.{all_long}

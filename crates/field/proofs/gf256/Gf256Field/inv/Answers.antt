@@ -1,4 +1,4 @@
-use Rattle.std.proofs.Common.{◌≡◌, sym, ap, ◌∙◌}
+use Rattle.std.proofs.Common.{sym, ap, ◌∙◌}
 use Rattle.field.specs.Binary.{inverse_gf256}
 use Rattle.field.specs.Polynomials.{inverses}
 use Rattle.field.proofs.gf256.Gf256Field.inv.Goals as goal

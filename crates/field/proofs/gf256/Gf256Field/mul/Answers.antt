@@ -1,4 +1,4 @@
-use Rattle.std.proofs.Common.{◌≡◌, ℕ, ◌<◌, ◌⊎◌, sym, inl, inr, rules}
+use Rattle.std.proofs.Common.{◌≡◌, ◌<◌, ◌⊎◌, sym, inl, inr, rules}
 use Rattle.field.specs.Polynomials.{zero_product}
 use Rattle.field.proofs.gf256.Gf256Field.mul.Goals as goal
 

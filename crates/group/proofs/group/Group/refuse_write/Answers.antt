@@ -34,28 +34,28 @@ returns-in-Some g c =
 pub index-requires : goal.index-requires
 index-requires g c = omega (arith, c.in-Ok.ensures.within, c.args.self.now.server_each)
 
-pub returns-in-Some-refuse-write : goal.returns-in-Some-refuse-write
-returns-in-Some-refuse-write g c =
+pub returns-in-Some-refuse_write : goal.returns-in-Some-refuse_write
+returns-in-Some-refuse_write g c =
     let q = c.args.self.now in
     let m = c.args.carrier.now in
     let s = c.args.s in
     let items = vec_items q.servers in
     let lt : s < length items = omega (arith, c.in-Ok.ensures.within, q.server_each, q.servers.ok.0) in
     stages_are (layout g.F.Field.arithmetic q (g.C.Carrier.p m)) (state q (g.C.Carrier.lanes m)) s c.args.object c.args.value.now (leb q.code.servers (g.C.Carrier.n m))
-    None None (Some c.in-Some-refuse-write.refusal) _ (Some c.in-Some-refuse-write.refusal) c.in-Ok.ensures.answer.0 (sym (c.in-default.ensures (g.C.Carrier.p m)))
-    (own_refusal q.code.cells items s c.in-Ok.me.number c.index.result.now _ lt c.index.ensures c.in-Ok.ensures.answer.1 c.in-Some-refuse-write.ensures.refusal) refl refl
+    None None (Some c.in-Some-refuse_write.refusal) _ (Some c.in-Some-refuse_write.refusal) c.in-Ok.ensures.answer.0 (sym (c.in_default.ensures (g.C.Carrier.p m)))
+    (own_refusal q.code.cells items s c.in-Ok.me.number c.index.result.now _ lt c.index.ensures c.in-Ok.ensures.answer.1 c.in-Some-refuse_write.ensures.refusal) refl refl
 
-pub returns-then-not-all-free : goal.returns-then-not-all-free
-returns-then-not-all-free g c =
+pub returns-then-not-all_free : goal.returns-then-not-all_free
+returns-then-not-all_free g c =
     let q = c.args.self.now in
     let m = c.args.carrier.now in
     let s = c.args.s in
     let items = vec_items q.servers in
     let lt : s < length items = omega (arith, c.in-Ok.ensures.within, q.server_each, q.servers.ok.0) in
-    let full : free (g.C.Carrier.p m) (g.C.Carrier.lanes m) s q.code.servers ≡ false = sym (c.if-not-all-free.ensures ∙ ap (free (g.C.Carrier.p m) (g.C.Carrier.lanes m) s) c.servers.ensures.counted) in
+    let full : free (g.C.Carrier.p m) (g.C.Carrier.lanes m) s q.code.servers ≡ false = sym (c.if-not-all_free.ensures ∙ ap (free (g.C.Carrier.p m) (g.C.Carrier.lanes m) s) c.servers.ensures.counted) in
     stages_are (layout g.F.Field.arithmetic q (g.C.Carrier.p m)) (state q (g.C.Carrier.lanes m)) s c.args.object c.args.value.now (leb q.code.servers (g.C.Carrier.n m))
-    None None None (Some LaneFull) (Some LaneFull) c.in-Ok.ensures.answer.0 (sym (c.in-default.ensures (g.C.Carrier.p m)))
-    (own_refusal q.code.cells items s c.in-Ok.me.number c.index.result.now _ lt c.index.ensures c.in-Ok.ensures.answer.1 c.in-default-refuse-write.ensures.refusal)
+    None None None (Some LaneFull) (Some LaneFull) c.in-Ok.ensures.answer.0 (sym (c.in_default.ensures (g.C.Carrier.p m)))
+    (own_refusal q.code.cells items s c.in-Ok.me.number c.index.result.now _ lt c.index.ensures c.in-Ok.ensures.answer.1 c.in_default-refuse_write.ensures.refusal)
     (ap (λ (b : Bool). check b LaneFull None) full) refl
 
 pub returns : goal.returns
@@ -65,8 +65,8 @@ returns g c =
     let s = c.args.s in
     let items = vec_items q.servers in
     let lt : s < length items = omega (arith, c.in-Ok.ensures.within, q.server_each, q.servers.ok.0) in
-    let room : free (g.C.Carrier.p m) (g.C.Carrier.lanes m) s q.code.servers ≡ true = sym (c.if-not-all-free.ensures ∙ ap (free (g.C.Carrier.p m) (g.C.Carrier.lanes m) s) c.servers.ensures.counted) in
+    let room : free (g.C.Carrier.p m) (g.C.Carrier.lanes m) s q.code.servers ≡ true = sym (c.if-not-all_free.ensures ∙ ap (free (g.C.Carrier.p m) (g.C.Carrier.lanes m) s) c.servers.ensures.counted) in
     stages_are (layout g.F.Field.arithmetic q (g.C.Carrier.p m)) (state q (g.C.Carrier.lanes m)) s c.args.object c.args.value.now (leb q.code.servers (g.C.Carrier.n m))
-    None None None None None c.in-Ok.ensures.answer.0 (sym (c.in-default.ensures (g.C.Carrier.p m)))
-    (own_refusal q.code.cells items s c.in-Ok.me.number c.index.result.now _ lt c.index.ensures c.in-Ok.ensures.answer.1 c.in-default-refuse-write.ensures.refusal)
+    None None None None None c.in-Ok.ensures.answer.0 (sym (c.in_default.ensures (g.C.Carrier.p m)))
+    (own_refusal q.code.cells items s c.in-Ok.me.number c.index.result.now _ lt c.index.ensures c.in-Ok.ensures.answer.1 c.in_default-refuse_write.ensures.refusal)
     (ap (λ (b : Bool). check b LaneFull None) room) refl

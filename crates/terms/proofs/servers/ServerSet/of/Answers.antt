@@ -1,5 +1,4 @@
-use Rattle.std.proofs.Common.{◌≡◌, ℕ, ◌<◌, Bool, true, false, cond, ◌||◌, eqb, ltb, List, length, get_or, take, Some, None, sym, refl, ap, ◌∙◌, arith, length-set, le-ltb, lt-ltb}
-use lib.ListN.{get_or-replicate}
+use Rattle.std.proofs.Common.{ℕ, ◌<◌, Bool, true, ◌||◌, eqb, ltb, List, length, get_or, None, sym, refl, ap, ◌∙◌, arith, length-set, le-ltb, lt-ltb}
 use Rattle.std.proofs.lemmas.List.{take_all}
 use Rattle.terms.specs.declared.refusal.Refusal.TheVariants.{NoSuchServer}
 use Rattle.terms.proofs.Each.{each_stop, each_next, each_done}

@@ -1,4 +1,4 @@
-use Rattle.std.proofs.Common.{◌≡◌, ℕ, ◌+◌, ◌-◌, ◌≤◌, List, ◌++◌, length, take, sym, ap, ◌∙◌, arith, length-append}
+use Rattle.std.proofs.Common.{◌≡◌, ℕ, ◌+◌, ◌-◌, List, ◌++◌, length, take, ap, ◌∙◌, arith, length-append}
 use borrow.Rule.Slice.PartMut.{put_mid, same_len_mid}
 use Rattle.std.proofs.lemmas.List.{length-take-le}
 use Rattle.wire.specs.Bodies.{body_so_far}
@@ -9,7 +9,10 @@ pub invariant_of-self : goal.invariant_of-self
 invariant_of-self c =
     let b = c.args.self.now in
     let long : length (body_so_far b) ≡ b.len = length-take-le b.len b.bytes (omega (arith, b.fits, b.whole)) in
-    (same_len_mid b.len (b.len + length c.args.more.now - b.len) b.bytes c.copy_from_slice.new.self c.copy_from_slice.ensures.len ∙ b.whole, (omega arith, tt))
+    record {
+      whole = same_len_mid b.len (b.len + length c.args.more.now - b.len) b.bytes c.copy_from_slice.new.self c.copy_from_slice.ensures.len ∙ b.whole;
+      fits = omega arith;
+    }
 
 pub returns : goal.returns
 returns c =

@@ -1,7 +1,5 @@
-use Rattle.std.proofs.Common.{◌≡◌, ℕ, ◌+◌, ◌-◌, ◌*◌, ◌/◌, ◌≤◌, [], ◌∷◌, length, take, refl, ap, ◌∙◌, arith, length-take}
-use Rattle.terms.specs.declared.bounded.Bounded.{Bounded}
+use Rattle.std.proofs.Common.{ℕ, ◌+◌, ◌-◌, ◌*◌, ◌/◌, [], ◌∷◌, length, refl, ap, arith, length-take}
 use Rattle.terms.specs.Items.{items}
-use Rattle.terms.specs.Limits.{max_cells}
 use Rattle.wire.specs.Bodies.{body_so_far}
 use Rattle.wire.proofs.Puts.{opaque_put, few_items}
 use Rattle.wire.proofs.body.Body.put_opaque.Goals as goal

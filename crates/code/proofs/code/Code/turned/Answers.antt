@@ -1,10 +1,10 @@
-use Rattle.std.proofs.Common.{◌≡◌, ℕ, ◌<◌, List, length, get_or, sym, refl, ap, ◌∙◌, ap₂, arith}
+use Rattle.std.proofs.Common.{◌≡◌, ℕ, ◌<◌, length, get_or, ap, ◌∙◌, ap₂, arith}
 use Rattle.terms.specs.Items.{items}
 use Rattle.terms.specs.Lists.{listed}
 use Rattle.terms.proofs.Listed.{length_listed, listed_push}
 use Rattle.code.specs.Codings.{re_encoded_cell}
 use Rattle.code.specs.Meaning.{meaning}
-use Rattle.code.proofs.code.Code.exchange.Goals as goal
+use Rattle.code.proofs.code.Code.turned.Goals as goal
 
 pub loop-c-init : goal.loop-c-init
 loop-c-init g c = c.new-turned.ensures.empty

@@ -3,7 +3,7 @@ use Rattle.terms.specs.Items.{items}
 use Rattle.terms.specs.Lists.{listed}
 use Rattle.code.specs.Codings.{re_encoded_cell}
 use Rattle.code.specs.Meaning.{meaning}
-use Rattle.code.proofs.code.Code.exchange.Given as goal
+use Rattle.code.proofs.code.Code.turned.Given as goal
 
 abbrev pub invariant-loop-c : goal.invariant-loop-c
 invariant-loop-c g l =
