@@ -1,11 +1,11 @@
 -- A server with some of its parts changed. Assumes nothing.
-use Rattle.std.proofs.Common.{◌≡◌, ℕ, max, Bool, true, false, cond, List, [], ◌∷◌, ◌++◌, sym, refl, ap, ◌∙◌, ap₂}
+use Rattle.std.proofs.Common.{◌≡◌, ℕ, max, Bool, true, false, cond, List, [], ◌∷◌, ◌++◌, ap, ◌∙◌, ap₂}
 use Rattle.message.specs.declared.tag.Tag.{Tag}
 use Rattle.rules.specs.Words.{upd}
 use Rattle.message.specs.Tags.{zero_tag}
 use Rattle.rules.specs.Histories.{Entry, zero_record}
 use Rattle.rules.specs.State.{Waiting, Read, Free, Server, new_server}
-use Rattle.rules.specs.Updates.{entered, counted, queued, sifted, reading, hearing, moved}
+use Rattle.rules.specs.Updates.{entered, counted, queued, sifted, hearing, moved}
 
 -- other counts and another greatest height
 abbrev pub timed : Server → (ℕ → ℕ) → ℕ → Server

@@ -1,13 +1,13 @@
 -- The steps of one server, from its single changes. Assumes nothing.
-use Rattle.std.proofs.Common.{◌≡◌, ℕ, zero, suc, ◌+◌, ◌<◌, ◌≤◌, Bool, true, false, cond, not, ◌&&◌, ltb, List, length, get_or, take, Some, None, filter, Option, sym, refl, ap, ◌∙◌, ap₂, add-one, arith}
+use Rattle.std.proofs.Common.{◌≡◌, ℕ, zero, suc, ◌+◌, ◌<◌, ◌≤◌, Bool, true, false, cond, not, ltb, List, length, get_or, take, Some, None, filter, Option, sym, refl, ap, ◌∙◌, ap₂, add-one, arith}
 use Rattle.std.proofs.lemmas.Bool.{lt-ltb}
 use Rattle.std.proofs.lemmas.List.{length-take-le, get_or-take}
-use Rattle.terms.specs.Limits.{max_entries, max_count, max_height, max_read}
+use Rattle.terms.specs.Limits.{max_entries, max_read}
 use Rattle.terms.specs.declared.refusal.Refusal.{Refusal}
 use Rattle.terms.specs.declared.refusal.Refusal.TheVariants.{NumbersUsedUp}
 use Rattle.message.specs.declared.tag.Tag.{Tag}
 use Rattle.rules.specs.Histories.{Entry, is_entry, earlier}
-use Rattle.rules.specs.State.{Layout, Waiting, Server, Read, Free, Open, Answered, Given}
+use Rattle.rules.specs.State.{Layout, Waiting, Server, Read, Answered, Given}
 use Rattle.rules.specs.Turns.{check}
 use Rattle.rules.specs.Updates.{entered, counted, queued, sifted, reading, overtaken, opening, new_read}
 use Rattle.rules.specs.Words.{upd}

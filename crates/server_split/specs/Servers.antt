@@ -1,5 +1,5 @@
 -- A server as the rules see it. Assumes nothing.
-use Rattle.std.specs.Prelude.{ℕ, List, [], map, slice_index, slice_index_or}
+use Rattle.std.specs.Prelude.{List, [], map, slice_index, slice_index_or}
 use Rattle.terms.specs.Items.{items}
 use Rattle.message.specs.declared.tag.Tag.{Tag}
 use Rattle.message.specs.Tags.{zero_tag}

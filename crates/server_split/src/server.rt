@@ -19,12 +19,11 @@ pub mod sweeping;
 pub mod writing;
 
 // The tag of one object that each server told last.
+#[derive(Clone, Copy)]
 pub struct Told {
     tags: [Tag; MAX_SERVERS],
     ghost tag_each: { length tags ≡ max_servers },
 }
-
-impl Copy for Told {}
 
 #[derive(Drop)]
 pub struct Server {

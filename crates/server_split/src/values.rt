@@ -7,19 +7,17 @@ use message::tag::Tag;
 use terms::bounded::Cells;
 
 // A value: it has at least one cell.
+#[derive(Clone, Copy)]
 pub struct Value {
     pub cells: Cells,
     ghost some_cells: { 1 ≤ length (items cells) },
 }
 
-impl Copy for Value {}
-
 // A symbol with the own tag that it has of an object.
+#[derive(Clone, Copy)]
 pub struct Own {
     pub tag: Tag,
     pub symbol: Cells,
     ghost tag_in_range: { tag_ok tag ≡ true },
     ghost some_cells: { 1 ≤ length (items symbol) },
 }
-
-impl Copy for Own {}

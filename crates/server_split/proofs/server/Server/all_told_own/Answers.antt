@@ -11,7 +11,7 @@ loop-j-init c = sym (every_none (λ (j : ℕ). same ((server c.args.self.now).to
 pub loop-j-preserved : goal.loop-j-preserved
 loop-j-preserved c =
     let test : ℕ → Bool = λ j. same ((server c.args.self.now).told c.args.object j) ((server c.args.self.now).own c.args.object) in
-    ap₂ (λ a b. a && b) c.loop-j.invariant c.has-told-own-all.ensures ∙ sym (every_more c.loop-j.j test)
+    ap₂ (λ a b. a && b) c.loop-j.invariant c.has_told_own-all.ensures ∙ sym (every_more c.loop-j.j test)
 
 pub returns : goal.returns
 returns c =

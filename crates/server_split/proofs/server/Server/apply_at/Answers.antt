@@ -20,6 +20,6 @@ returns c =
     let ew : w ≡ write_at p.waiting i = cc in
     record {
       tag = ap (λ (u : rules.Waiting). u.tag) ew;
-      after = applied_is p (queued p rest) (server c.take-in.new.self) i w c.requires.room (ap (queued p) c.remove.ensures.rest) ew
-          (c.take-in.ensures ∙ ap (λ (n : ℕ). took_in (queued p rest) w.tag.server n false (record { object = w.object; tag = w.tag; value = w.value })) c.get-or-count.ensures.found);
+      after = applied_is p (queued p rest) (server c.take_in.new.self) i w c.requires.room (ap (queued p) c.remove.ensures.rest) ew
+          (c.take_in.ensures ∙ ap (λ (n : ℕ). took_in (queued p rest) w.tag.server n false (record { object = w.object; tag = w.tag; value = w.value })) c.get_or-count.ensures.found);
     }

@@ -1,6 +1,5 @@
 use Rattle.std.proofs.Common.{ℕ, ◌≤◌, arith, length-set}
 use Rattle.terms.specs.Limits.{max_count}
-use Rattle.rules.specs.Updates.{counted}
 use Rattle.server_split.specs.Servers.{server}
 use Rattle.reads.proofs.Words.{getD_upd, each_set}
 use Rattle.server_split.proofs.Parts.{counted_is}
@@ -15,9 +14,16 @@ returns c =
           (getD_upd p.clock c.args.j.number c.args.count 0 (omega (arith, c.args.j.within, p.count_each))) c.max-self.ensures;
     }
 
-pub invariant-of-self : goal.invariant-of-self
-invariant-of-self c =
-    let p = c.args.self.now in (
-      each_set (λ (n : ℕ). n ≤ max_count) p.clock c.args.j.number c.args.count 0 (omega (arith, c.args.j.within, p.count_each)) p.counts_in_range c.requires,
-      (simp length-set p.count_each, (p.own_each, (p.told_each, (p.own_in_range, (p.some_cells, tt))))),
-    )
+pub invariant_of-self : goal.invariant_of-self
+invariant_of-self c =
+    let p = c.args.self.now in
+    record {
+      counts_in_range =
+          each_set (λ (n : ℕ). n ≤ max_count) p.clock c.args.j.number c.args.count 0 (omega (arith, c.args.j.within, p.count_each)) p.counts_in_range
+          c.requires;
+      count_each = simp length-set p.count_each;
+      own_each = p.own_each;
+      told_each = p.told_each;
+      own_in_range = p.own_in_range;
+      some_cells = p.some_cells;
+    }

@@ -1,4 +1,4 @@
-use Rattle.std.proofs.Common.{◌≡◌, ℕ, ◌<◌, ◌≤◌, List, [], map, length, get_or, take, sym, refl, ap, ◌∙◌, arith}
+use Rattle.std.proofs.Common.{ℕ, ◌<◌, ◌≤◌, List, [], length, get_or, take, sym, ap, ◌∙◌, arith}
 use Rattle.message.specs.declared.tag.Tag.{Tag}
 use Rattle.message.specs.Tags.{zero_tag}
 use Rattle.rules.specs.Encoding.{lowest}

@@ -1,4 +1,4 @@
-use Rattle.std.proofs.Common.{◌≡◌, ap}
+use Rattle.std.proofs.Common.{ap}
 use Rattle.rules.specs.Updates.{sifted}
 use Rattle.server_split.specs.Servers.{server}
 use Rattle.server_split.proofs.server.Server.forget_below.Goals as goal

@@ -1,4 +1,4 @@
-use Rattle.std.proofs.Common.{◌≡◌, Bool, true, cond, not, filter, sym, ap, ◌∙◌}
+use Rattle.std.proofs.Common.{Bool, cond, not, filter, ap, ◌∙◌}
 use Rattle.message.specs.declared.tag.Tag.{Tag}
 use Rattle.rules.specs.Histories as rules
 use Rattle.rules.specs.Histories.{is_entry}
@@ -8,10 +8,10 @@ use Rattle.server_split.specs.Servers.{server}
 use Rattle.server_split.specs.Steps.{without_own}
 use Rattle.server_split.proofs.server.Server.forget_settled.Goals as goal
 
-pub returns-then-is-settled : goal.returns-then-is-settled
+pub returns-then-is_settled : goal.returns-then-is_settled
 unfolding sifted
-returns-then-is-settled c =
+returns-then-is_settled c =
     let p = server c.args.self.now in
     let gone : Tag → state.Server = λ t. sifted p (filter (λ (e : rules.Entry). not (is_entry c.args.object t e)) p.history) in
-    ap (sifted p) c.sift.ensures.rest ∙ ap gone c.own-tag-tag.ensures.told
-    ∙ ap (λ (b : Bool). cond b (without_own p c.args.object) p) c.if-is-settled.ensures
+    ap (sifted p) c.sift.ensures.rest ∙ ap gone c.own_tag-tag.ensures.told
+    ∙ ap (λ (b : Bool). cond b (without_own p c.args.object) p) c.if-is_settled.ensures

@@ -19,22 +19,17 @@ returns c =
           (getD_upd q.own x t zero_tag (omega (arith, c.args.object.within, q.own_each)));
     }
 
-pub invariant-of-self : goal.invariant-of-self
-invariant-of-self c =
+pub invariant_of-self : goal.invariant_of-self
+invariant_of-self c =
     let q = c.hear.new.self in
-    let x = c.args.object.number in (
-      q.counts_in_range,
-      (
-        q.count_each,
-        (
-          simp length-set q.own_each,
-          (
-            q.told_each,
-            (
-              each_set (λ (t : Tag). tag_ok t ≡ true) q.own x c.args.to.tag zero_tag (omega (arith, c.args.object.within, q.own_each)) q.own_in_range c.args.to.tag_in_range,
-              (c.args.to.some_cells, tt),
-            ),
-          ),
-        ),
-      ),
-    )
+    let x = c.args.object.number in
+    record {
+      counts_in_range = q.counts_in_range;
+      count_each = q.count_each;
+      own_each = simp length-set q.own_each;
+      told_each = q.told_each;
+      own_in_range =
+          each_set (λ (t : Tag). tag_ok t ≡ true) q.own x c.args.to.tag zero_tag (omega (arith, c.args.object.within, q.own_each)) q.own_in_range
+          c.args.to.tag_in_range;
+      some_cells = c.args.to.some_cells;
+    }

@@ -1,11 +1,9 @@
-use Rattle.std.proofs.Common.{◌≡◌, ℕ, ◌≤◌, true, List, [], map, length, get_or, replicate, sym, refl, ap, ◌∙◌, subst, zero-le, arith}
-use mathlib.Core.Path.{fun_ext}
+use Rattle.std.proofs.Common.{◌≡◌, ℕ, ◌≤◌, true, length, sym, refl, ap, subst, arith}
 use Rattle.message.specs.Ranges.{tag_ok}
 use Rattle.terms.specs.Limits.{max_count}
 use Rattle.terms.proofs.Listed.{length_listed}
 use Rattle.message.specs.declared.tag.Tag.{Tag}
 use Rattle.message.specs.Tags.{zero_tag}
-use Rattle.terms.specs.Items.{items}
 use Rattle.reads.proofs.Words.{row_same, rows_same, same_everywhere}
 use Rattle.server_split.proofs.Parts.{new_is}
 use Rattle.server_split.proofs.server.Server.new.Goals as goal
@@ -14,26 +12,19 @@ pub returns : goal.returns
 returns g c =
     record {
       new =
-          new_is c.args.code.now.cells (row_same 0 0 refl) c.zero-cells.ensures.value (row_same c.zero-2.result zero_tag c.zero-2.ensures.zero)
+          new_is c.args.code.now.cells (row_same 0 0 refl) c.zero_cells.ensures.value (row_same c.zero-2.result zero_tag c.zero-2.ensures.zero)
           (rows_same c.zero.result zero_tag c.zero.ensures.zero)
-          c.in-ok-new.ensures.empty c.in-ok-new-2.ensures.empty c.in-ok-new-3.ensures.all_free;
+          c.in_ok-new.ensures.empty c.in_ok-new-2.ensures.empty c.in_ok-new-3.ensures.all_free;
     }
 
-pub invariant-of-result : goal.invariant-of-result
-invariant-of-result g c =
-    let z = c.zero-2.result in (
-      λ j. subst (λ (n : ℕ). n ≤ max_count) (sym (same_everywhere 6 0 j)) (omega arith),
-      (
-        refl,
-        (
-          refl,
-          (
-            refl,
-            (
-              λ x. subst (λ (f : ℕ → Tag). tag_ok (f x) ≡ true) (sym (row_same z zero_tag c.zero-2.ensures.zero)) refl,
-              (omega (arith, ap length c.zero-cells.ensures.value, length_listed {A = ℕ} c.args.code.now.cells (λ _. 0), c.args.code.now.least_cells), tt),
-            ),
-          ),
-        ),
-      ),
-    )
+pub invariant_of-result : goal.invariant_of-result
+invariant_of-result g c =
+    let z = c.zero-2.result in
+    record {
+      counts_in_range = λ j. subst (λ (n : ℕ). n ≤ max_count) (sym (same_everywhere 6 0 j)) (omega arith);
+      count_each = refl;
+      own_each = refl;
+      told_each = refl;
+      own_in_range = λ x. subst (λ (f : ℕ → Tag). tag_ok (f x) ≡ true) (sym (row_same z zero_tag c.zero-2.ensures.zero)) refl;
+      some_cells = omega (arith, ap length c.zero_cells.ensures.value, length_listed {A = ℕ} c.args.code.now.cells (λ _. 0), c.args.code.now.least_cells);
+    }

@@ -1,5 +1,4 @@
-use Rattle.std.proofs.Common.{◌≡◌, sym, refl, ap, ◌∙◌, arith}
-use Rattle.rules.specs.State as rules
+use Rattle.std.proofs.Common.{refl, ap, ◌∙◌, arith}
 use Rattle.rules.specs.Words.{upd}
 use Rattle.reads.specs.Readings.{reads}
 use Rattle.server_split.specs.Servers.{server}
@@ -13,5 +12,5 @@ returns c =
       answer = (open_passes p (omega arith), refl);
       after =
           opening_is p c.args.me.number c.args.i.number c.args.object (reads c.put.new.self) (omega arith)
-          (c.put.ensures.after ∙ ap (upd p.reads c.args.i.number) c.next-read-read.ensures);
+          (c.put.ensures.after ∙ ap (upd p.reads c.args.i.number) c.next_read-read.ensures);
     }

@@ -1,4 +1,4 @@
-use Rattle.std.proofs.Common.{◌≡◌, ap}
+use Rattle.std.proofs.Common.{ap}
 use Rattle.rules.specs.Updates.{reading}
 use Rattle.server_split.specs.Servers.{server}
 use Rattle.server_split.proofs.server.Server.overtake.Goals as goal

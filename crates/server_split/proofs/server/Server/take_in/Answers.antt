@@ -1,4 +1,4 @@
-use Rattle.std.proofs.Common.{◌≡◌, ◌∙◌}
+use Rattle.std.proofs.Common.{◌∙◌}
 use Rattle.history.specs.Entries.{entry}
 use Rattle.server_split.specs.Servers.{server}
 use Rattle.server_split.proofs.Steps.{took_is}

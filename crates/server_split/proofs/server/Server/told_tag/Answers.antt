@@ -1,4 +1,4 @@
-use Rattle.std.proofs.Common.{◌≡◌, ℕ, ◌<◌, ◌≤◌, List, [], map, length, get_or, sym, refl, ap, ◌∙◌, arith}
+use Rattle.std.proofs.Common.{◌<◌, ◌≤◌, List, [], map, length, get_or, sym, ap, ◌∙◌, arith}
 use Rattle.std.proofs.lemmas.List.{length-map, get_or_past}
 use Rattle.message.specs.declared.tag.Tag.{Tag}
 use Rattle.message.specs.Tags.{zero_tag}
@@ -15,7 +15,7 @@ returns-then-object-lt6 c =
     let lt : x < length p.told = omega (arith, p.told_each) in
     record {
       told =
-          c.tag-of.ensures ∙ ap (λ (r : Told). get_or r.tags c.args.j zero_tag) (sym c.index-self-object.is)
+          c.tag_of.ensures ∙ ap (λ (r : Told). get_or r.tags c.args.j zero_tag) (sym c.index-self-object.is)
           ∙ ap (λ (r : List Tag). get_or r c.args.j zero_tag) (map_at told_tags p.told x row [] lt c.index-self-object.is);
     }
 

@@ -1,4 +1,4 @@
-use Rattle.std.proofs.Common.{◌≡◌, ℕ, ◌+◌, true, sym, refl, ap, ◌∙◌}
+use Rattle.std.proofs.Common.{ℕ, ◌+◌, true, sym, refl, ap, ◌∙◌}
 use Rattle.terms.specs.Items.{items}
 use Rattle.rules.specs.Writing.{write_tag}
 use Rattle.server_split.specs.Servers.{server}
@@ -13,7 +13,7 @@ returns c =
     let x = c.args.object in
     let v = items c.args.value.cells in
     record {
-      answer = (sym c.in-default.ensures.refusal, refl);
-      after = written_is p (server c.take-in.new.self) s x v c.in-default.ensures.refusal
-          (c.take-in.ensures ∙ ap (λ (n : ℕ). took_in p s (n + 1) true (record { object = x; tag = write_tag p s; value = v })) c.count-of-count.ensures.counted);
+      answer = (sym c.in_default.ensures.refusal, refl);
+      after = written_is p (server c.take_in.new.self) s x v c.in_default.ensures.refusal
+          (c.take_in.ensures ∙ ap (λ (n : ℕ). took_in p s (n + 1) true (record { object = x; tag = write_tag p s; value = v })) c.count_of-count.ensures.counted);
     }

@@ -8,7 +8,7 @@ use Rattle.server_split.proofs.Steps.{lowest_none, lowest_more}
 use Rattle.server_split.proofs.server.sweeping.lowest.Goals as goal
 
 pub loop-tag-init : goal.loop-tag-init
-loop-tag-init c = c.tag-at-floor.ensures ∙ sym (lowest_none (λ (j : ℕ). get_or c.args.told.now j zero_tag))
+loop-tag-init c = c.tag_at-floor.ensures ∙ sym (lowest_none (λ (j : ℕ). get_or c.args.told.now j zero_tag))
 
 pub loop-tag-preserved : goal.loop-tag-preserved
 loop-tag-preserved c =
