@@ -3,7 +3,7 @@
 .PHONY: run test
 
 run:
-	@mkdir -p target; rt run funds 2> target/run.log || { cat target/run.log >&2; exit 1; }
+	@mkdir -p target; cd crates/funds; rt run 2> ../../target/run.log || { cat ../../target/run.log >&2; exit 1; }
 
 test:
 	@tools/gate.sh
