@@ -4,14 +4,14 @@
 #
 #   second/compare.sh [REPLAY] [SEED ..]
 #
-# REPLAY is the path of the program (target/bin/replay if none is given). A word
+# REPLAY is the path of the program (crates/replay/out/replay if none is given). A word
 # that is all digits is a seed. STEPS in the environment is the length of a fresh
 # script (3000 if it is not set).
 
 LC_ALL=C
 export LC_ALL
 here=$(cd "$(dirname "$0")" && pwd) || exit 2
-replay=$here/../target/bin/replay
+replay=$here/../crates/replay/out/replay
 seeds=
 for word in "$@"; do
     case $word in
