@@ -19,7 +19,7 @@ pub struct Told {
 pub enum MarkFault {
     // fewer bytes than the mark has, or than it counts
     TooShort,
-    // the last_fragment bit is not set
+    // the last-fragment bit is not set
     NotLast,
 }
 

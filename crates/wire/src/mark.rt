@@ -1,4 +1,4 @@
-// The record's mark: four bytes, the last_fragment bit and the length of the body.
+// The record's mark: four bytes, the last-fragment bit and the length of the body.
 ghost use Rattle.std.specs.Prelude.{◌≡◌};
 ghost use Rattle.wire.specs.Reading.{Cut, mark};
 

@@ -7,6 +7,7 @@ use carrier::place::{Place, blank_places};
 use message::kinds::Message;
 use std::alloc::Global;
 use std::process::Abort;
+use std::test::Fail;
 use terms::refusal::Refusal;
 
 fn numbered(read: u32) -> Result<Message, Fail> {

@@ -1,6 +1,7 @@
 // Reading: each fault by number, byte and layer, and each bound from both sides.
 use crate::samples::*;
 use std::process::Abort;
+use std::test::Fail;
 use wire::faults::Told;
 use wire::read::read_message;
 use wire::write::write_message;

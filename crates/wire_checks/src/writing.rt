@@ -2,6 +2,7 @@
 use crate::samples::*;
 use message::kinds::*;
 use message::tag::Tag;
+use std::test::Fail;
 use wire::read::read_message;
 use wire::write::write_message;
 
