@@ -1,5 +1,5 @@
 // How the queue of waiting writes changes.
-ghost use Rattle.std.specs.Prelude.{◌≡◌, ◌<◌, ltb, [], ◌∷◌, ◌++◌, length, IfOk, if◌then◌else◌, nat_lt};
+ghost use Rattle.std.specs.Prelude.{◌≡◌, ◌<◌, [], ◌∷◌, ◌++◌, length, IfOk, if◌then◌else◌, nat_lt};
 ghost use Rattle.terms.specs.Limits.{max_waiting};
 ghost use Rattle.rules.specs.Writing.{write_at, without};
 ghost use Rattle.server.specs.Writes.{write, writes};
@@ -33,7 +33,7 @@ impl Queue {
 
     // A write more, at the end; a full queue stays as it is.
     pub fn enter(&mut self, w: Waiting)
-        ensures entered_if_room { writes self.new ≡ (if ltb (length (writes self.old)) max_waiting then writes self.old ++ write w ∷ [] else writes self.old) }
+        ensures entered_if_room { writes self.new ≡ (if nat_lt (length (writes self.old)) max_waiting then writes self.old ++ write w ∷ [] else writes self.old) }
     {
         if self.has_room() {
             self.writes.push_reserved(w);

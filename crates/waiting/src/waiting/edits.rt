@@ -1,5 +1,5 @@
 // How the queue of waiting writes changes.
-ghost use Rattle.std.specs.Prelude.{◌≡◌, ◌<◌, ltb, [], ◌∷◌, ◌++◌, length, IfOk, if◌then◌else◌, Some, None, nat_lt};
+ghost use Rattle.std.specs.Prelude.{◌≡◌, ◌<◌, [], ◌∷◌, ◌++◌, length, IfOk, if◌then◌else◌, Some, None, nat_lt};
 ghost use Rattle.std.specs.Option.{option_map};
 ghost use Rattle.terms.specs.Limits.{max_waiting};
 ghost use Rattle.rules.specs.Writing.{write_at, without};
@@ -34,7 +34,7 @@ impl Queue {
 
     // A write more, at the end; a full queue stays as it is.
     pub fn enter(&mut self, w: Waiting)
-        ensures entered_if_room { writes self.new ≡ (if ltb (length (writes self.old)) max_waiting then writes self.old ++ write w ∷ [] else writes self.old) }
+        ensures entered_if_room { writes self.new ≡ (if nat_lt (length (writes self.old)) max_waiting then writes self.old ++ write w ∷ [] else writes self.old) }
     {
         if self.has_room() {
             self.writes.push_reserved(w);
@@ -43,7 +43,7 @@ impl Queue {
 
     // Takes the write at a place out of the queue; past the last there is none.
     pub fn remove(&mut self, at: usize) -> Option<Waiting>
-        ensures removed { option_map write result ≡ (if ltb at (length (writes self.old)) then Some (write_at (writes self.old) at) else None) }
+        ensures removed { option_map write result ≡ (if nat_lt at (length (writes self.old)) then Some (write_at (writes self.old) at) else None) }
         ensures rest { writes self.new ≡ without (writes self.old) at }
     {
         if at < self.len() {
