@@ -27,5 +27,5 @@ returns g c =
 
 pub invariant-of-settle : goal.invariant-of-settle
 invariant-of-settle g c =
-    let long = c.in-Some-decoded.ensures.value.long in
+    let long = c.in-Some-decoded.ensures.1.value.long in
     let one = c.args.code.now.least_cells in (omega (arith, long, one), tt)
