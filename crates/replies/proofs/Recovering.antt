@@ -1,5 +1,5 @@
 -- Recovery by sets that agree on the servers of a code. Assumes nothing.
-use Rattle.std.proofs.Common.{◌≡◌, ℕ, suc, ◌+◌, ◌<◌, ◌≤◌, Bool, true, false, cond, not, ◌&&◌, ◌||◌, eqb, ltb, List, [], ◌∷◌, length, get_or, Some, None, Option, sym, refl, ap, ◌∙◌, arith, MatchOption}
+use Rattle.std.proofs.Common.{◌≡◌, ℕ, ◌<◌, ◌≤◌, Bool, true, false, cond, not, ◌&&◌, ◌||◌, ltb, List, ◌∷◌, length, get_or, Some, None, Option, sym, refl, ap, ◌∙◌, arith, MatchOption}
 use Rattle.std.proofs.lemmas.Bool.{eq-eqb, ne_eqb, lt-ltb}
 use Rattle.terms.specs.Items.{items}
 use Rattle.terms.specs.Lists.{listed}
@@ -11,7 +11,7 @@ use Rattle.terms.proofs.Every.{every_all}
 use Rattle.terms.proofs.Listed.{length_listed, listed_at, listed_same}
 use Rattle.field.specs.Laws.{Ring}
 use Rattle.field.proofs.Algebra as algebra
-use Rattle.code.specs.Codings.{Coding, Value, Values, symbol, combination, replaced}
+use Rattle.code.specs.Codings.{Coding, Values, symbol, combination, replaced}
 use Rattle.code.specs.Recovery.{Recovers, Decoded}
 use Rattle.code.specs.Refusing.{known_set, recovers_refusal}
 
