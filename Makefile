@@ -3,8 +3,7 @@
 .PHONY: run test
 
 run:
-	@mkdir -p target; rt check funds > target/run.log 2>&1 || { cat target/run.log; exit 1; }
-	@target/bin/funds
+	@mkdir -p target; cd crates/funds; rt run 2> ../../target/run.log || { cat ../../target/run.log >&2; exit 1; }
 
 test:
-	@rt ci
+	@tools/gate.sh

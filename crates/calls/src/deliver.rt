@@ -23,12 +23,11 @@ use replies::turns::Delivered;
 use terms::refusal::Refusal;
 
 // The two ends of a lane.
+#[derive(Clone, Copy)]
 pub(crate) struct Ends {
     pub(crate) from: ServerNumber,
     pub(crate) to: ServerNumber,
 }
-
-impl Copy for Ends {}
 
 // The ends of the lane from one server to another, if the group has both and they differ, and the carrier has all servers of the group.
 fn ends_of<F: Field + Copy, C: Carrier>(

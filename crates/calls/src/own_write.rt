@@ -3,7 +3,7 @@ ghost use Rattle.std.specs.Prelude.{◌≡◌, ℕ, true, IfOk};
 ghost use Rattle.terms.specs.Items.{items};
 ghost use Rattle.message.specs.Meanings.{meaning};
 ghost use Rattle.message.specs.Ranges.{in_range};
-ghost use Rattle.code.specs.Meaning as code_of_lem;
+ghost use Rattle.code.specs.Meaning as code_of;
 ghost use Rattle.server_split.specs.Servers.{server};
 ghost use Rattle.server_split.specs.Steps.{laid};
 ghost use Rattle.calls.specs.Writing.{write_local, write_said};
@@ -33,7 +33,7 @@ pub(crate) fn own_write<F: Field + Copy>(
     value: Value,
     lanes_free: bool,
 ) -> Result<Written, Refusal>
-    ensures step { (places : ℕ) → write_said result (server p.new) ≡ write_local (laid (code_of_lem.meaning F.arithmetic code.now) places) (server p.old) aim.server.number aim.object.number (items value.cells) lanes_free }
+    ensures step { (places : ℕ) → write_said result (server p.new) ≡ write_local (laid (code_of.meaning F.arithmetic code.now) places) (server p.old) aim.server.number aim.object.number (items value.cells) lanes_free }
     ensures sendable { IfOk result (λ w. in_range (meaning w.notice) ≡ true) }
 {
     if let Some(refusal) = p.refuse_write(aim.server) {

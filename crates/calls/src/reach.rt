@@ -11,12 +11,11 @@ use reads::numbers::{ObjectNumber, ServerNumber};
 use terms::refusal::Refusal;
 
 // The server and the object that a call is about.
+#[derive(Clone, Copy)]
 pub(crate) struct Aim {
     pub(crate) server: ServerNumber,
     pub(crate) object: ObjectNumber,
 }
-
-impl Copy for Aim {}
 
 // The server, if the group has it and the carrier has all servers of the group.
 pub(crate) fn reach<F: Field + Copy, C: Carrier>(

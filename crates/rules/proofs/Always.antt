@@ -1,6 +1,6 @@
 -- Tags are within their ranges in every run; so the core is sound in every run, and no delivery answers 6.
 use Rattle.std.proofs.Common.{◌≡◌, ℕ, ◌+◌, ◌*◌, ◌/◌, ◌%◌, ◌<◌, ◌≤◌, true, false, ◌&&◌, eqb, ltb, leb, List, ◌∷◌, length, refl, arith}
-use Rattle.std.specs.List.{AllByRecursion as All}
+use Rattle.std.specs.List.{AllByRecursion}
 use Rattle.std.proofs.lemmas.Bool.{le-leb, and_right, ltb-true, lt-ltb, and_parts, and_from, or_left}
 use Rattle.rules.proofs.RankedMessages.{Message, Written, Tagged, Question, Plain, Coded, tag}
 use Rattle.rules.proofs.Ranked.{Code, Entry, State, has, core, slots, most_writes, most_height, fresh}
@@ -65,7 +65,7 @@ module _ (g : Code) (R : Lawful g) where
 
   noticed : (S : State) → Ranged S → Noticed g S
   noticed S h a b x t ms e =
-      let all : All (Sent g FitEntry Fit a) (Tagged x t ∷ ms) = rw e at (h.lanes a b) in
+      let all : AllByRecursion (Sent g FitEntry Fit a) (Tagged x t ∷ ms) = rw e at (h.lanes a b) in
       notice_fits g R x t all.0.0 all.0.1
 
   pub record Stands (S : State) : Type 0 where

@@ -1,6 +1,6 @@
 -- A delivery keeps the values right; every run has them.
 use Rattle.std.proofs.Common.{◌≡◌, ℕ, ◌<◌, true, cond, ◌&&◌, eqb, ltb, List, [], ◌∷◌, ◌++◌, length, get_or, drop, sym, refl, ap, ◌∙◌, ap₂, inl, inr, arith}
-use Rattle.std.specs.List.{AllByRecursion as All}
+use Rattle.std.specs.List.{AllByRecursion}
 use Rattle.std.proofs.lemmas.Bool.{cases_eq, eqb-true, and_parts, and_from, cond_both}
 use Rattle.rules.proofs.RankedMessages.{Message, Written, Tagged, Question, Plain, Coded, tag}
 use Rattle.rules.proofs.RankedWords.{upd, listed, posted, taken}
@@ -24,9 +24,9 @@ module _ (g : Code) (R : Lawful g) (L : List Entry) (cells : Cells g R L) (S : S
   Kept t = Valued g R L t.next
 
   module _ (a b : ℕ) (an : a < g.n) (bn : b < g.n) (ne : a ≡ b → ⊥) where
-    taken_told : (P : ℕ → ℕ → Message → Type 0) (i j : ℕ) → All (P i j) (S.lanes i j) → All (P i j) (taken S.lanes a b i j)
+    taken_told : (P : ℕ → ℕ → Message → Type 0) (i j : ℕ) → AllByRecursion (P i j) (S.lanes i j) → AllByRecursion (P i j) (taken S.lanes a b i j)
     unfolding taken
-    taken_told P i j q = cond_both (eqb i a && eqb j b) (drop 1 (S.lanes i j)) (S.lanes i j) (All (P i j)) (λ _. All-drop (P i j) 1 (S.lanes i j) q) (λ _. q)
+    taken_told P i j q = cond_both (eqb i a && eqb j b) (drop 1 (S.lanes i j)) (S.lanes i j) (AllByRecursion (P i j)) (λ _. All-drop (P i j) 1 (S.lanes i j) q) (λ _. q)
 
     take_valued : (r : Server) → Right g R L b r → StillReads (S.servers b) r → Valued g R L (take_done g S a b r)
     unfolding take_done
@@ -62,7 +62,7 @@ module _ (g : Code) (R : Lawful g) (L : List Entry) (cells : Cells g R L) (S : S
         let P : ℕ → ℕ → Message → Type 0 = λ i j. Told g R L i (S.servers i) (S.servers j) in
         record {
           servers = h.servers;
-          lanes = λ i j inn jn nn. cond_both (eqb i b && eqb j a) (taken S.lanes a b i j ++ reply g b p m x T ∷ []) (taken S.lanes a b i j) (All (P i j))
+          lanes = λ i j inn jn nn. cond_both (eqb i b && eqb j a) (taken S.lanes a b i j ++ reply g b p m x T ∷ []) (taken S.lanes a b i j) (AllByRecursion (P i j))
               (λ e. let q = and_parts (eqb i b) (eqb j a) e in
               All-push (P i j) (taken S.lanes a b i j) (reply g b p m x T) (taken_told P i j (h.lanes i j inn jn nn)) (rw (eqb-true i b q.0, eqb-true j a q.1) reply_told))
               (λ _. taken_told P i j (h.lanes i j inn jn nn));
@@ -164,7 +164,7 @@ module _ (g : Code) (R : Lawful g) (L : List Entry) (cells : Cells g R L) (S : S
         (λ _. take_plain p refl refl (λ i e. refl)))
         (λ _. take_plain p refl refl (λ i e. refl))
 
-    oldest_valued : (l : List Message) (d : Found) → All (Told g R L a (S.servers a) (S.servers b)) l → Kept (oldest g S a b l d)
+    oldest_valued : (l : List Message) (d : Found) → AllByRecursion (Told g R L a (S.servers a) (S.servers b)) l → Kept (oldest g S a b l d)
     unfolding oldest
     oldest_valued [] d all = h
     oldest_valued (m ∷ ms) d all = cond_both (fits g m) (got g S a b m d) (turn (Outcome 7) (take_done g S a b (S.servers b))) Kept (λ _. got_valued m d all.0) (λ _. take_plain (S.servers b) refl refl (λ i e. refl))
@@ -174,7 +174,7 @@ module _ (g : Code) (R : Lawful g) (L : List Entry) (cells : Cells g R L) (S : S
         → (let r = (S.servers b).reads (open_slot g (S.servers b) m) in v ≡ kept g L r.object (r.tags r.object))
     plain_right m v ms e l =
         let i = open_slot g (S.servers b) m in
-        let all : All (Told g R L a (S.servers a) (S.servers b)) (Plain m v ∷ ms) = rw e at (h.lanes a b an bn ne) in
+        let all : AllByRecursion (Told g R L a (S.servers a) (S.servers b)) (Plain m v ∷ ms) = rw e at (h.lanes a b an bn ne) in
         all.0 i (slot_live m l) (open_found g (S.servers b) m l).1
 
     pub coded_right : (m : ℕ) (v st : List ℕ) (ms : List Message) (d : Found) → S.lanes a b ≡ Coded m v st ∷ ms → AllowedMessage g S a b (Coded m v st) d → (l : ltb (open_slot g (S.servers b) m) slots ≡ true) → d.recovered ≡ true
@@ -183,7 +183,7 @@ module _ (g : Code) (R : Lawful g) (L : List Entry) (cells : Cells g R L) (S : S
         let p = S.servers b in
         let i = open_slot g p m in
         let r = p.reads i in
-        let all : All (Told g R L a (S.servers a) (S.servers b)) (Coded m v st ∷ ms) = rw e at (h.lanes a b an bn ne) in
+        let all : AllByRecursion (Told g R L a (S.servers a) (S.servers b)) (Coded m v st ∷ ms) = rw e at (h.lanes a b an bn ne) in
         let lv = slot_live m l in
         let w = mended g p a r v st g.k in
         let mend = mends g S f a b an bn ne m v st ms e l in
@@ -198,13 +198,13 @@ module _ (g : Code) (R : Lawful g) (L : List Entry) (cells : Cells g R L) (S : S
     found_right (Question m x T) ms d e ok = tt
     found_right (Plain m v) ms d e ok = λ l c.
         let i = open_slot g (S.servers b) m in
-        let all : All (Told g R L a (S.servers a) (S.servers b)) (Plain m v ∷ ms) = rw e at (h.lanes a b an bn ne) in
+        let all : AllByRecursion (Told g R L a (S.servers a) (S.servers b)) (Plain m v ∷ ms) = rw e at (h.lanes a b an bn ne) in
         ((src.servers b).reads i ((S.servers b).reads i).object, all.0 i (slot_live m l) (open_found g (S.servers b) m l).1)
     found_right (Coded m v st) ms d e ok = λ l c rec.
         let p = S.servers b in
         let i = open_slot g p m in
         let r = p.reads i in
-        let all : All (Told g R L a (S.servers a) (S.servers b)) (Coded m v st ∷ ms) = rw e at (h.lanes a b an bn ne) in
+        let all : AllByRecursion (Told g R L a (S.servers a) (S.servers b)) (Coded m v st ∷ ms) = rw e at (h.lanes a b an bn ne) in
         let lv = slot_live m l in
         let w = mended g p a r v st g.k in
         let mend = mends g S f a b an bn ne m v st ms e l in

@@ -1,7 +1,7 @@
 -- Over each call, the reads that the events tell of stay joined to the places of every server.
 use Rattle.std.proofs.Common.{◌≡◌, ℕ, zero, suc, ◌+◌, ◌-◌, ◌/◌, ◌<◌, ◌≤◌, Bool, true, false, cond, not, ◌&&◌, eqb, ltb, List, [], ◌∷◌, ◌++◌, map, length, get_or, Some, sym, refl, ap, ◌∙◌, subst, ap₂, inl, inr, ⊎_elim, append-nil, arith}
 use mathlib.Core.Path.{fun_ext}
-use Rattle.std.specs.List.{AllByRecursion as All}
+use Rattle.std.specs.List.{AllByRecursion}
 use Rattle.std.proofs.lemmas.Bool.Decides.{nat_tests as ways}
 use Rattle.std.proofs.lemmas.Bool.{cases_Bool, cases_eq, both_ways, and_parts, and_from, and_right, and_left, or_cases, or_right, or_from, lt-ltb, ltb-true, ltb-false, eq-eqb, ne_eqb, eqb-true, cond-true, cond-false, cond_both}
 use Rattle.std.proofs.ByRecursion.{All-weaker}
@@ -211,7 +211,7 @@ module _ (g : Code) (R : Lawful g) (es : List Event) (L : List Entry) (A : ℕ �
     new_for : (y : ℕ) → enters L y t ≡ false
     new_for y = new_tag L s (S.servers s).top y (let l = R.few in let z = sn in omega arith) (known.told.tops s sn)
 
-    all_lower : All (λ u. u < t) (A s)
+    all_lower : AllByRecursion (λ u. u < t) (A s)
     all_lower = All-weaker (λ u. u / 6 ≤ (S.servers s).top) (λ u. u < t) (λ u q. omega arith) (A s) (heights s)
 
     is_in : enters (L ++ e ∷ []) x t ≡ true
@@ -386,7 +386,7 @@ module _ (g : Code) (R : Lawful g) (es : List Event) (L : List Entry) (A : ℕ �
     coded_fit : (m : ℕ) (v st : List ℕ) (ms : List Message) → S.lanes a b ≡ Coded m v st ∷ ms → ltb (open_slot g (S.servers b) m) slots ≡ true → fits g (Coded m v st) ≡ true
     coded_fit m v st ms q found =
         let w = counted_number m (coded_replies m v st ms q) found in
-        let all : All (Told g R L a (S.servers a) (S.servers b)) (Coded m v st ∷ ms) = rw q at (known.told.valued.lanes a b an bn ne) in
+        let all : AllByRecursion (Told g R L a (S.servers a) (S.servers b)) (Coded m v st ∷ ms) = rw q at (known.told.valued.lanes a b an bn ne) in
         let mx : Mix g R L a (λ y. get_or st y 0) v = all.0.1 in
         coded_fits g R m v st w.0 w.1 mx.long (λ c lt. subst (λ z. z < g.q) (sym (mx.cells c lt)) (mix_below g R a _)) all.0.2 (λ y yk. stated_fits y (get_or st y 0) (all.0.0 y yk))
 

@@ -1,6 +1,6 @@
 -- The log of accepted writes grows; in every run every symbol is right.
 use Rattle.std.proofs.Common.{◌≡◌, ℕ, ◌+◌, ◌/◌, ◌%◌, ◌<◌, ◌≤◌, true, false, eqb, ◌⊎◌, List, [], ◌∷◌, ◌++◌, length, get_or, sym, refl, ap, ◌∙◌, inl, inr, ⊎_elim, arith}
-use Rattle.std.specs.List.{AllByRecursion as All}
+use Rattle.std.specs.List.{AllByRecursion}
 use Rattle.std.proofs.lemmas.Bool.{or_from, and_right, both_ways, cases_Bool, eq-eqb, ne_eqb, eqb-true, and_from, or_cases, or_parts, cond_both, cond-true, cond-false}
 use Rattle.rules.proofs.RankedMessages.{Message, Written, Tagged, Question, Plain, Coded, tag}
 use Rattle.rules.proofs.RankedWords.{upd}
@@ -183,9 +183,9 @@ module _ (g : Code) (R : Lawful g) (L : List Entry) (e : Entry) (pos : 0 < e.tag
 
 -- the log knows no height of a server above what it has applied
 abbrev pub Tops : Code → List Entry → State → Type 0
-Tops g L S = (s : ℕ) → s < g.n → All (λ e. (e.tag % 6 ≡ s) → e.tag / 6 ≤ (S.servers s).top) L
+Tops g L S = (s : ℕ) → s < g.n → AllByRecursion (λ e. (e.tag % 6 ≡ s) → e.tag / 6 ≤ (S.servers s).top) L
 
-pub new_tag : (L : List Entry) (s top x : ℕ) → s < 6 → All (λ e. (e.tag % 6 ≡ s) → e.tag / 6 ≤ top) L → enters L x (tag (top + 1) s) ≡ false
+pub new_tag : (L : List Entry) (s top x : ℕ) → s < 6 → AllByRecursion (λ e. (e.tag % 6 ≡ s) → e.tag / 6 ≤ top) L → enters L x (tag (top + 1) s) ≡ false
 unfolding enters
 new_tag [] s top x lt h = refl
 new_tag (d ∷ L) s top x lt h = or_from (same_entry x (tag (top + 1) s) d) (enters L x (tag (top + 1) s))

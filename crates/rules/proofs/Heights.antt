@@ -1,6 +1,6 @@
 -- What a server has applied is no higher than its greatest height, and the log has tags of writes only.
 use Rattle.std.proofs.Common.{◌≡◌, ℕ, ◌+◌, ◌/◌, ◌<◌, ◌≤◌, true, cond, eqb, List, [], ◌∷◌, ◌++◌, sym, subst, append-nil, arith}
-use Rattle.std.specs.List.{AllByRecursion as All}
+use Rattle.std.specs.List.{AllByRecursion}
 use Rattle.std.proofs.lemmas.Bool.{cond_both, eqb-true}
 use Rattle.std.proofs.ByRecursion.{All-push, All-weaker}
 use Rattle.rules.specs.Turns.{Call, Write, Read as Ask, Collect, Deliver, Apply, Encode, Sweep, Found}
@@ -16,7 +16,7 @@ use Rattle.rules.proofs.Always.{tag_ok, write_ok}
 use Rattle.rules.proofs.Latest.{also}
 
 abbrev pub Heights : (ℕ → List ℕ) → State → Type 0
-Heights A S = (k : ℕ) → All (λ u. u / 6 ≤ (S.servers k).top) (A k)
+Heights A S = (k : ℕ) → AllByRecursion (λ u. u / 6 ≤ (S.servers k).top) (A k)
 
 module _ (g : Code) (A : ℕ → List ℕ) (S : State) (h : Heights A S) where
   -- tops rise
@@ -24,11 +24,11 @@ module _ (g : Code) (A : ℕ → List ℕ) (S : State) (h : Heights A S) where
   risen T up k = All-weaker (λ u. u / 6 ≤ (S.servers k).top) (λ u. u / 6 ≤ (T.servers k).top) (λ u q. let z = up k in omega arith) (A k) (h k)
 
   nil_heights : (T : State) → Heights A T → Heights (λ k. A k ++ []) T
-  nil_heights T q k = subst (All (λ u. u / 6 ≤ (T.servers k).top)) (sym (append-nil (A k))) (q k)
+  nil_heights T q k = subst (AllByRecursion (λ u. u / 6 ≤ (T.servers k).top)) (sym (append-nil (A k))) (q k)
 
   more_heights : (T : State) (s t : ℕ) → Heights A T → t / 6 ≤ (T.servers s).top → Heights (λ k. A k ++ cond (eqb s k) (t ∷ []) []) T
-  more_heights T s t q new k = cond_both (eqb s k) (t ∷ []) [] (λ l. All (λ u. u / 6 ≤ (T.servers k).top) (A k ++ l))
-      (λ e. All-push (λ u. u / 6 ≤ (T.servers k).top) (A k) t (q k) (subst (λ i. t / 6 ≤ (T.servers i).top) (eqb-true s k e) new)) (λ _. subst (All (λ u. u / 6 ≤ (T.servers k).top)) (sym (append-nil (A k))) (q k))
+  more_heights T s t q new k = cond_both (eqb s k) (t ∷ []) [] (λ l. AllByRecursion (λ u. u / 6 ≤ (T.servers k).top) (A k ++ l))
+      (λ e. All-push (λ u. u / 6 ≤ (T.servers k).top) (A k) t (q k) (subst (λ i. t / 6 ≤ (T.servers i).top) (eqb-true s k e) new)) (λ _. subst (AllByRecursion (λ u. u / 6 ≤ (T.servers k).top)) (sym (append-nil (A k))) (q k))
 
   apply_top : (s : ℕ) (v : Waiting) (vs : List Waiting) → height v.tag ≤ ((apply_done g S s v vs).servers s).top
   unfolding apply_done reading entered counted queued
@@ -47,7 +47,7 @@ module _ (g : Code) (A : ℕ → List ℕ) (S : State) (h : Heights A S) where
 
 -- the log's tags fit and are not zero
 abbrev pub Proper : Code → List Entry → Type 0
-Proper g L = All (λ e. (tag_fits g e.tag ≡ true) × (0 < e.tag)) L
+Proper g L = AllByRecursion (λ e. (tag_fits g e.tag ≡ true) × (0 < e.tag)) L
 
 module _ (g : Code) (R : Lawful g) (L : List Entry) (h : Proper g L) (S : State) where
   nil_proper : Proper g (L ++ [])

@@ -1,6 +1,6 @@
 -- What a write and an apply make of the peaks; reads answered at once give the latest, in every run.
 use Rattle.std.proofs.Common.{◌≡◌, ℕ, ◌+◌, ◌/◌, ◌%◌, ◌<◌, ◌≤◌, max, Bool, true, false, cond, eqb, ltb, ◌⊎◌, List, [], ◌∷◌, ◌++◌, get_or, Some, sym, refl, ap, ◌∙◌, subst, ap₂, inl, inr, ⊎_elim, append-nil, arith}
-use Rattle.std.specs.List.{AllByRecursion as All}
+use Rattle.std.specs.List.{AllByRecursion}
 use Rattle.std.proofs.lemmas.Bool.{or_from, and_left, both_ways, cases_Bool, cases_eq, eq-eqb, ne_eqb, eqb-true, ltb-false, and_parts, and_from, or_cases, or_parts, or_right, cond_both, cond-true, cond-false}
 use Rattle.rules.proofs.RankedMessages.{Written, height, server}
 use Rattle.rules.proofs.RankedWords.{upd, listed, Lanes, spread}
@@ -36,7 +36,7 @@ unique_push L e h new x y t a b =
     object_of : (z : ℕ) → same_entry z t e ≡ true → e.object ≡ z
     object_of z w = eqb-true e.object z (and_parts (eqb e.object z) (eqb e.tag t) w).0
 
-pub all_entered : (P : ℕ → Type 0) (L : List Entry) (x t : ℕ) → All (λ e. P e.tag) L → enters L x t ≡ true → P t
+pub all_entered : (P : ℕ → Type 0) (L : List Entry) (x t : ℕ) → AllByRecursion (λ e. P e.tag) L → enters L x t ≡ true → P t
 unfolding enters
 all_entered P [] x t h e = absurd (both_ways false refl e)
 all_entered P (d ∷ L) x t h e = ⊎_elim (λ q. subst P (eqb-true d.tag t (and_parts (eqb d.object x) (eqb d.tag t) q).1) h.0) (λ q. all_entered P L x t h.1 q) (or_cases (same_entry x t d) (enters L x t) e)
@@ -89,7 +89,7 @@ module _ (g : Code) (L M : List Entry) (A B : ℕ → List ℕ) (S : State) (h :
 
 -- no server knows of a height of s above what s has applied
 abbrev pub AppliedTops : Code → (ℕ → List ℕ) → State → Type 0
-AppliedTops g A S = (k s : ℕ) → s < g.n → All (λ u. (u % 6 ≡ s) → u / 6 ≤ (S.servers s).top) (A k)
+AppliedTops g A S = (k s : ℕ) → s < g.n → AllByRecursion (λ u. (u % 6 ≡ s) → u / 6 ≤ (S.servers s).top) (A k)
 
 pub record Known (g : Code) (R : Lawful g) (L : List Entry) (A : ℕ → List ℕ) (S : State) : Type 0 where
   pub told : ToldRight g R L S
@@ -126,7 +126,7 @@ module _ (g : Code) (R : Lawful g) (L : List Entry) (A : ℕ → List ℕ) (S : 
       at_s : A s ++ cond (eqb s s) (e.tag ∷ []) [] ≡ A s ++ e.tag ∷ []
       at_s = ap (λ b. A s ++ cond b (e.tag ∷ []) []) (eq-eqb s s refl)
 
-      apart : (k : ℕ) → All (λ u. u ≡ e.tag → ⊥) (A k)
+      apart : (k : ℕ) → AllByRecursion (λ u. u ≡ e.tag → ⊥) (A k)
       apart k = All-weaker (λ u. (u % 6 ≡ s) → u / 6 ≤ (S.servers s).top) (λ u. u ≡ e.tag → ⊥)
           (λ u q z. let l = R.few in let below_n = sn in let m : u % 6 ≡ s = omega arith in let w = q m in omega arith) (A k) (h.tops k s sn)
 
@@ -201,7 +201,7 @@ module _ (g : Code) (R : Lawful g) (L : List Entry) (A : ℕ → List ℕ) (S : 
 
   -- one tag more, where it is not above what its server has applied
   more_tops : (S' : State) (s t : ℕ) → AppliedTops g A S' → ((i : ℕ) → i < g.n → t % 6 ≡ i → t / 6 ≤ (S'.servers i).top) → AppliedTops g (λ k. A k ++ cond (eqb s k) (t ∷ []) []) S'
-  more_tops S' s t q new k i inn = cond_both (eqb s k) (t ∷ []) [] (λ l. All (λ u. (u % 6 ≡ i) → u / 6 ≤ (S'.servers i).top) (A k ++ l))
+  more_tops S' s t q new k i inn = cond_both (eqb s k) (t ∷ []) [] (λ l. AllByRecursion (λ u. (u % 6 ≡ i) → u / 6 ≤ (S'.servers i).top) (A k ++ l))
       (λ _. All-push (λ u. (u % 6 ≡ i) → u / 6 ≤ (S'.servers i).top) (A k) t (q k i inn) (new i inn)) (λ _. rw (append-nil (A k)) (q k i inn))
 
   write_tops : (s x : ℕ) (v : List ℕ) → write_refusal g S s x v ≡ 0 → AppliedTops g A (write_done g S s x v) → AppliedTops g (λ k. A k ++ cond (eqb s k) (write_tag g (S.servers s) s ∷ []) []) (write_done g S s x v)

@@ -1,6 +1,6 @@
 -- Lists that grow at their end.
 use Rattle.std.proofs.Common.{◌≡◌, ℕ, ◌⊎◌, List, [], ◌∷◌, ◌++◌, map, refl, ap, subst, ap₂, inl, inr, ⊎_elim, arith}
-use Rattle.std.specs.List.{ContainsAt as Has, AllByRecursion as All}
+use Rattle.std.specs.List.{ContainsAt, AllByRecursion}
 use Rattle.std.proofs.ByRecursion.{all-has, all_has_itself, All-map, All-weaker}
 
 module _ {X : Type 0} where
@@ -33,15 +33,15 @@ module _ {X : Type 0} where
 -- an element of a mapped list is the image of an element
 pub record Image {X Y : Type 0} (f : X → Y) (xs : List X) (y : Y) : Type 0 where
   pub from : X
-  pub has : Has xs from
+  pub has : ContainsAt xs from
   pub is : f from ≡ y
 
-pub has_image : {X Y : Type 0} (f : X → Y) (xs : List X) (y : Y) → Has (map f xs) y → Image f xs y
-has_image f xs y h = all-has (Image f xs) (map f xs) y (All-map (Image f xs) f xs (All-weaker (Has xs) (λ x. Image f xs (f x)) (λ x q. record { from = x; has = q; is = refl }) xs (all_has_itself xs))) h
+pub has_image : {X Y : Type 0} (f : X → Y) (xs : List X) (y : Y) → ContainsAt (map f xs) y → Image f xs y
+has_image f xs y h = all-has (Image f xs) (map f xs) y (All-map (Image f xs) f xs (All-weaker (ContainsAt xs) (λ x. Image f xs (f x)) (λ x q. record { from = x; has = q; is = refl }) xs (all_has_itself xs))) h
 
-all_unmap : {X Y : Type 0} (P : Y → Type 0) (f : X → Y) (xs : List X) → All P (map f xs) → All (λ x. P (f x)) xs
+all_unmap : {X Y : Type 0} (P : Y → Type 0) (f : X → Y) (xs : List X) → AllByRecursion P (map f xs) → AllByRecursion (λ x. P (f x)) xs
 all_unmap P f [] h = tt
 all_unmap P f (x ∷ xs) h = (h.0, all_unmap P f xs h.1)
 
-pub image_has : {X Y : Type 0} (f : X → Y) (xs : List X) (x : X) → Has xs x → Has (map f xs) (f x)
-image_has f xs x h = all-has (λ z. Has (map f xs) (f z)) xs x (all_unmap (Has (map f xs)) f xs (all_has_itself (map f xs))) h
+pub image_has : {X Y : Type 0} (f : X → Y) (xs : List X) (x : X) → ContainsAt xs x → ContainsAt (map f xs) (f x)
+image_has f xs x h = all-has (λ z. ContainsAt (map f xs) (f z)) xs x (all_unmap (ContainsAt (map f xs)) f xs (all_has_itself (map f xs))) h

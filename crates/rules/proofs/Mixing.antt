@@ -1,6 +1,6 @@
 -- A delivery keeps the values right.
 use Rattle.std.proofs.Common.{◌≡◌, ℕ, zero, suc, ◌<◌, ◌≤◌, Bool, true, false, cond, not, ◌&&◌, ◌||◌, eqb, ◌⊎◌, List, [], ◌∷◌, get_or, sym, refl, ap, ◌∙◌, subst, inl, inr, ⊎_elim, arith}
-use Rattle.std.specs.List.{AllByRecursion as All}
+use Rattle.std.specs.List.{AllByRecursion}
 use Rattle.std.proofs.lemmas.Bool.{both_ways, cases_eq, eqb-true, and_parts, and_cases, or_cases, or_left, or_right, not-true, not-false, cond_both, cond-false}
 use Rattle.rules.proofs.RankedWords.{upd, listed}
 use Rattle.rules.proofs.Ranked.{Code, Entry, Read, Server, has, holds, enters, same_entry, kept, swap}
@@ -24,7 +24,7 @@ module _ (g : Code) (R : Lawful g) (L : List Entry) (cells : Cells g R L) where
   ]) h
 
   -- ---- the symbol of a reply
-  module _ (s : ℕ) (p : Server) (T : List ℕ) (sn : s < g.n) (sym_right : Mix g R L s p.own p.symbol) (hist : All (OfEntry g R L) p.history) where
+  module _ (s : ℕ) (p : Server) (T : List ℕ) (sn : s < g.n) (sym_right : Mix g R L s p.own p.symbol) (hist : AllByRecursion (OfEntry g R L) p.history) where
     A : ℕ → ℕ
     A y = states g s p y (get_or T y 0)
 
@@ -72,7 +72,7 @@ module _ (g : Code) (R : Lawful g) (L : List Entry) (cells : Cells g R L) where
       (λ _. cond_both (holds p.history y u) u 0 (OfTag g R L y) asked (λ _. refl)) (λ _. o.own y)
 
   -- what a history holds is of the log
-  pub held_of : (es : List Entry) (x t : ℕ) → All (OfEntry g R L) es → holds es x t ≡ true → OfTag g R L x t
+  pub held_of : (es : List Entry) (x t : ℕ) → AllByRecursion (OfEntry g R L) es → holds es x t ≡ true → OfTag g R L x t
   unfolding enters
   held_of [] x t all e = ⊎_elim (λ q. or_left (eqb t 0) (enters L x t) q) (λ q. absurd (both_ways false refl q)) (or_cases (eqb t 0) false e)
   held_of (d ∷ es) x t all e = ⊎_elim (λ q. or_left (eqb t 0) (enters L x t) q)
@@ -81,7 +81,7 @@ module _ (g : Code) (R : Lawful g) (L : List Entry) (cells : Cells g R L) where
       (or_cases (eqb t 0) (same_entry x t d || enters es x t) e)
 
   -- ---- the symbol of a reply, mended for a read
-  module _ (p : Server) (a : ℕ) (r : Read) (v st : List ℕ) (an : a < g.n) (hist : All (OfEntry g R L) p.history) (mend : mendable g p a r st ≡ true) (coded : Mix g R L a (λ y. get_or st y 0) v) where
+  module _ (p : Server) (a : ℕ) (r : Read) (v st : List ℕ) (an : a < g.n) (hist : AllByRecursion (OfEntry g R L) p.history) (mend : mendable g p a r st ≡ true) (coded : Mix g R L a (λ y. get_or st y 0) v) where
     B : ℕ → ℕ
     B y = get_or st y 0
 

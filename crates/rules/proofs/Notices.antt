@@ -1,7 +1,7 @@
 -- Each write under way or waiting is one of its server's writes; clocks and notices over each call.
 use Rattle.std.proofs.Common.{◌≡◌, ℕ, suc, ◌+◌, ◌/◌, ◌%◌, ◌<◌, ◌≤◌, Bool, true, cond, not, ◌&&◌, eqb, ltb, leb, List, [], ◌∷◌, ◌++◌, length, get_or, take, drop, Some, None, Option, sym, refl, ap, ◌∙◌, subst, inl, inr, append-nil, arith}
 use mathlib.Core.Path.{fun_ext}
-use Rattle.std.specs.List.{AllByRecursion as All}
+use Rattle.std.specs.List.{AllByRecursion}
 use Rattle.std.proofs.lemmas.Bool.{cases_eq, cond_both, cond-true, cond-false, eq-eqb, ne_eqb, eqb-true, leb-true, and_parts}
 use Rattle.std.proofs.ByRecursion.{All-push, All-drop, All-take, All-append, All-get_or, All-weaker, all-has}
 use Rattle.std.proofs.lemmas.List.FromFn.{get_or-map-range_with_len}
@@ -38,8 +38,8 @@ Noticed n W a (Plain m v) = Unit {0}
 Noticed n W a (Coded m v st) = Unit {0}
 
 pub record Notices (n : ℕ) (W : Writes) (S : State) : Type 0 where
-  pub waiting : (s : ℕ) → All (Noted n W) (S.servers s).waiting
-  pub lanes : (a b : ℕ) → All (Noticed n W a) (S.lanes a b)
+  pub waiting : (s : ℕ) → AllByRecursion (Noted n W) (S.servers s).waiting
+  pub lanes : (a b : ℕ) → AllByRecursion (Noticed n W a) (S.lanes a b)
 
 noted_longer : (n : ℕ) (W X : Writes) → Longer W X → (w : Waiting) → Noted n W w → Noted n X w
 noted_longer n W X l w h = record {
@@ -75,7 +75,7 @@ module _ (g : Code) (W : Writes) (S : State) (h : Notices g.n W S) where
   Kept t = Quiet g.n W S t
 
   -- one server changes, with its clock and waiting writes as they were
-  put_quiet : (a : Answer) (s : ℕ) (r : Server) (Ln : Lanes) → r.clock ≡ (S.servers s).clock → All (Noted g.n W) r.waiting → ((a b : ℕ) → All (Noticed g.n W a) (Ln a b))
+  put_quiet : (a : Answer) (s : ℕ) (r : Server) (Ln : Lanes) → r.clock ≡ (S.servers s).clock → AllByRecursion (Noted g.n W) r.waiting → ((a b : ℕ) → AllByRecursion (Noticed g.n W a) (Ln a b))
       → Kept (turn a (record { servers = upd S.servers s r; lanes = Ln }))
   put_quiet a s r Ln c w l = record {
     clocks = λ k. upd_keeps (λ (q : Server). q.clock) S.servers s k r c;
@@ -88,14 +88,14 @@ module _ (g : Code) (W : Writes) (S : State) (h : Notices g.n W S) where
   same_quiet : (a : Answer) → Kept (turn a S)
   same_quiet a = record { clocks = λ s. refl; notices = h }
 
-  spread_quiet : (i : ℕ) (m : Message) → Noticed g.n W i m → (a b : ℕ) → All (Noticed g.n W a) (spread S.lanes i g.n m a b)
+  spread_quiet : (i : ℕ) (m : Message) → Noticed g.n W i m → (a b : ℕ) → AllByRecursion (Noticed g.n W a) (spread S.lanes i g.n m a b)
   unfolding spread
-  spread_quiet i m new a b = cond_both (eqb a i && (ltb b g.n && not (eqb b i))) (S.lanes a b ++ m ∷ []) (S.lanes a b) (All (Noticed g.n W a))
+  spread_quiet i m new a b = cond_both (eqb a i && (ltb b g.n && not (eqb b i))) (S.lanes a b ++ m ∷ []) (S.lanes a b) (AllByRecursion (Noticed g.n W a))
       (λ e. All-push (Noticed g.n W a) (S.lanes a b) m (h.lanes a b) (rw (eqb-true a i (and_parts (eqb a i) (ltb b g.n && not (eqb b i)) e).0) new)) (λ _. h.lanes a b)
 
-  taken_quiet : (i j a b : ℕ) → All (Noticed g.n W a) (taken S.lanes i j a b)
+  taken_quiet : (i j a b : ℕ) → AllByRecursion (Noticed g.n W a) (taken S.lanes i j a b)
   unfolding taken
-  taken_quiet i j a b = cond_both (eqb a i && eqb b j) (drop 1 (S.lanes a b)) (S.lanes a b) (All (Noticed g.n W a)) (λ _. All-drop (Noticed g.n W a) 1 (S.lanes a b) (h.lanes a b)) (λ _. h.lanes a b)
+  taken_quiet i j a b = cond_both (eqb a i && eqb b j) (drop 1 (S.lanes a b)) (S.lanes a b) (AllByRecursion (Noticed g.n W a)) (λ _. All-drop (Noticed g.n W a) 1 (S.lanes a b) (h.lanes a b)) (λ _. h.lanes a b)
 
   open_quiet : (a : Answer) (s i x : ℕ) → Kept (turn a (open_done g S s i x))
   unfolding open_done opening
@@ -121,11 +121,11 @@ module _ (g : Code) (W : Writes) (S : State) (h : Notices g.n W S) where
   unfolding take_done
   take_quiet o a b r q = put_quiet (Outcome o) b r (taken S.lanes a b) q.clock (arrived q.waiting) (λ i j. taken_quiet a b i j)
     where
-      arrived : Queues a (S.lanes a b) (S.servers b) r → All (Noted g.n W) r.waiting
-      arrived (as_before e) = subst (All (Noted g.n W)) (sym e) (h.waiting b)
+      arrived : Queues a (S.lanes a b) (S.servers b) r → AllByRecursion (Noted g.n W) r.waiting
+      arrived (as_before e) = subst (AllByRecursion (Noted g.n W)) (sym e) (h.waiting b)
       arrived (joins x v t ck ms e w) =
-          let all : All (Noticed g.n W a) (Written x v t ck ∷ ms) = rw e at (h.lanes a b) in
-          subst (All (Noted g.n W)) (sym w) (All-push (Noted g.n W) (S.servers b).waiting (record { object = x; tag = tag t a; value = v; clock = ck }) (h.waiting b) all.0)
+          let all : AllByRecursion (Noticed g.n W a) (Written x v t ck ∷ ms) = rw e at (h.lanes a b) in
+          subst (AllByRecursion (Noted g.n W)) (sym w) (All-push (Noted g.n W) (S.servers b).waiting (record { object = x; tag = tag t a; value = v; clock = ck }) (h.waiting b) all.0)
 
   question_quiet : (o a b m x : ℕ) (T : List ℕ) → Kept (turn (Outcome o) (question_done g S a b (reply g b (S.servers b) m x T)))
   unfolding question_done posted
@@ -137,7 +137,7 @@ module _ (g : Code) (W : Writes) (S : State) (h : Notices g.n W S) where
         clocks = λ s. refl;
         notices = record {
           waiting = h.waiting;
-          lanes = λ i j. cond_both (eqb i b && eqb j a) (taken S.lanes a b i j ++ z ∷ []) (taken S.lanes a b i j) (All (Noticed g.n W i))
+          lanes = λ i j. cond_both (eqb i b && eqb j a) (taken S.lanes a b i j ++ z ∷ []) (taken S.lanes a b i j) (AllByRecursion (Noticed g.n W i))
               (λ e. All-push (Noticed g.n W i) (taken S.lanes a b i j) z (taken_quiet a b i j) (rw (eqb-true i b (and_parts (eqb i b) (eqb j a) e).0) new)) (λ _. taken_quiet a b i j);
         };
       }
@@ -160,10 +160,10 @@ module _ (g : Code) (W : Writes) (S : State) (h : Notices g.n W S) where
 -- what is picked was waiting and is ready
 pub record Takes (n : ℕ) (W : Writes) (ready : Waiting → Bool) (k : Picked) : Type 0 where
   pub noted : Noted n W k.write
-  pub others : All (Noted n W) k.others
+  pub others : AllByRecursion (Noted n W) k.others
   pub ready_now : ready k.write ≡ true
 
-picked_takes : (g : Code) (W : Writes) (p : Server) (b : Picked) → All (Noted g.n W) p.waiting → picked g p p.waiting ≡ Some b → Takes g.n W (Steps.ready g p) b
+picked_takes : (g : Code) (W : Writes) (p : Server) (b : Picked) → AllByRecursion (Noted g.n W) p.waiting → picked g p p.waiting ≡ Some b → Takes g.n W (Steps.ready g p) b
 unfolding picked
 picked_takes g W p b all = from (next_ready g p p.waiting (length p.waiting)) (λ i q. next_picks g p p.waiting (length p.waiting) i q)
   where
@@ -298,8 +298,8 @@ module _ (g : Code) (R : Lawful g) (L : List Entry) (A : ℕ → List ℕ) (S : 
       notices =
           let old = notices_longer g.n W (pushed W s M) (pushed_longer W s M) S h.notices in
           record {
-            waiting = λ k. subst (All (Noted g.n (pushed W s M))) (sym (waiting_same k)) (old.waiting k);
-            lanes = λ a b. subst (λ (z : Lanes). All (Noticed g.n (pushed W s M) a) (z a b)) (sym lanes_after) (spread_quiet g (pushed W s M) S old s _ noted a b);
+            waiting = λ k. subst (AllByRecursion (Noted g.n (pushed W s M))) (sym (waiting_same k)) (old.waiting k);
+            lanes = λ a b. subst (λ (z : Lanes). AllByRecursion (Noticed g.n (pushed W s M) a) (z a b)) (sym lanes_after) (spread_quiet g (pushed W s M) S old s _ noted a b);
           };
     }
 
@@ -322,7 +322,7 @@ module _ (g : Code) (R : Lawful g) (L : List Entry) (A : ℕ → List ℕ) (S : 
     unfolding apply_done
     clock_far' k ne = ap (λ (q : Server). q.clock) (upd_other S.servers s k _ ne)
 
-    waiting_after : (k : ℕ) → All (Noted g.n W) ((apply_done g S s b.write b.others).servers k).waiting
+    waiting_after : (k : ℕ) → AllByRecursion (Noted g.n W) ((apply_done g S s b.write b.others).servers k).waiting
     unfolding apply_done reading entered counted queued
     waiting_after k = elim (cases_eq k s) [
       | inl q ↦ rw (q, upd_same S.servers s _) (picked_takes g W (S.servers s) b (h.notices.waiting s) e).others
@@ -365,7 +365,7 @@ module _ (g : Code) (R : Lawful g) (L : List Entry) (A : ℕ → List ℕ) (S : 
               ]))
               (ap (λ c. A s ++ cond c (w.tag ∷ []) []) (eq-eqb s s refl) ∙ ap (λ u. A s ++ u ∷ []) (sym nd.tag))
               (λ k ne. ap (λ c. A k ++ cond c (w.tag ∷ []) []) (ne_eqb s k (λ q. ne (sym q))) ∙ append-nil (A k));
-          notices = record { waiting = waiting_after; lanes = λ i j. subst (λ (z : Lanes). All (Noticed g.n W i) (z i j)) (sym lanes_same) (h.notices.lanes i j) };
+          notices = record { waiting = waiting_after; lanes = λ i j. subst (λ (z : Lanes). AllByRecursion (Noticed g.n W i) (z i j)) (sym lanes_same) (h.notices.lanes i j) };
         }
 
   -- ---- each call

@@ -1,6 +1,6 @@
 -- Reads over the applying of a write: a client's open read of its object is answered exactly where the events close it.
 use Rattle.std.proofs.Common.{◌≡◌, ℕ, suc, ◌<◌, Bool, true, false, cond, ◌&&◌, ◌||◌, eqb, ltb, ◌⊎◌, List, [], ◌∷◌, ◌++◌, length, get_or, sym, refl, ap, ◌∙◌, subst, ap₂, inl, inr, ⊎_elim, arith}
-use Rattle.std.specs.List.{AllByRecursion as All}
+use Rattle.std.specs.List.{AllByRecursion}
 use Rattle.std.proofs.lemmas.Bool.{cases_Bool, both_ways, and_parts, and_from, and_right, and_left, and_cases, lt-ltb, ltb-true, eq-eqb, eqb-true, cond-true, cond-false}
 use Rattle.std.proofs.lemmas.List.FromFn.{fill_by_all}
 use Rattle.message.specs.Tags.{lower}
@@ -32,7 +32,7 @@ relink s F G r q i k e same eq = subst (λ (z : Read). Linked s G z i) (sym eq) 
 })
 
 -- tags that are all below t have their best below t
-pub best_less : (L : List Entry) (x t : ℕ) (A : List ℕ) → 0 < t → All (λ u. u < t) A → best L x A < t
+pub best_less : (L : List Entry) (x t : ℕ) (A : List ℕ) → 0 < t → AllByRecursion (λ u. u < t) A → best L x A < t
 best_less L x t [] pos h = pos
 best_less L x t (u ∷ A) pos h = elim (cases_Bool (enters L x u)) [
   | inl e ↦ rw e (let a = h.0 in let b = best_less L x t A pos h.1 in omega arith)

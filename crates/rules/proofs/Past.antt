@@ -1,6 +1,6 @@
 -- What each server has applied, by counts of each server's writes in order: a write brings what its server had applied before it.
 use Rattle.std.proofs.Common.{◌≡◌, ℕ, suc, ◌%◌, ◌<◌, ◌≤◌, List, [], ◌∷◌, ◌++◌, length, get_or, sym, refl, ap, ◌∙◌, subst, inl, inr, ⊎_elim, arith}
-use Rattle.std.specs.List.{ContainsAt as Has}
+use Rattle.std.specs.List.{ContainsAt}
 use Rattle.std.proofs.lemmas.Bool.{cases_eq, cases_lt}
 use Rattle.std.proofs.lemmas.List.{get_or_append_left, get_or_push, length_push}
 use Rattle.std.proofs.ByRecursion.{has_append_left, has_push, has_push_cases}
@@ -38,14 +38,14 @@ pub record Counts (n : ℕ) (W : Writes) (A : ℕ → List ℕ) (C : ℕ → ℕ
   pub own : (j : ℕ) → j < n → length (W j) ≡ C j j
   pub most : (s j : ℕ) → s < n → j < n → C s j ≤ length (W j)
   -- what is applied is what is counted
-  pub reached : (s u : ℕ) → s < n → Has (A s) u → Reached n W (C s) u
-  pub applied : (s j m : ℕ) → s < n → j < n → m < C s j → Has (A s) (nth W j m).tag
+  pub reached : (s u : ℕ) → s < n → ContainsAt (A s) u → Reached n W (C s) u
+  pub applied : (s j m : ℕ) → s < n → j < n → m < C s j → ContainsAt (A s) (nth W j m).tag
   -- a write's clock counts itself, and its tag has its server
   pub counted : (j m : ℕ) → j < n → m < length (W j) → get_or (nth W j m).clock j 0 ≡ suc m
   pub server : (j m : ℕ) → j < n → m < length (W j) → (nth W j m).tag % 6 ≡ j
   pub once : (j m k : ℕ) → j < n → m < length (W j) → k < length (W j) → (nth W j m).tag ≡ (nth W j k).tag → m ≡ k
   -- what was applied before it is within its clock, and who applied it has at least its clock
-  pub before : (j m u : ℕ) → j < n → m < length (W j) → Has (nth W j m).past u → Reached n W (λ i. get_or (nth W j m).clock i 0) u
+  pub before : (j m u : ℕ) → j < n → m < length (W j) → ContainsAt (nth W j m).past u → Reached n W (λ i. get_or (nth W j m).clock i 0) u
   pub brings : (s j m : ℕ) → s < n → j < n → m < C s j → (i : ℕ) → i < n → get_or (nth W j m).clock i 0 ≤ C s i
 
 -- ---- one write more
@@ -169,30 +169,30 @@ module _ (n : ℕ) (W : Writes) (A B : ℕ → List ℕ) (C D : ℕ → ℕ → 
   once_at j m k jn (last_one p q) (old b) e = absurd (new_at j k p b (sym e ∙ ap (λ (z : Made). z.tag) (tag_last j m p q)))
   once_at j m k jn (last_one p q) (last_one a b) e = q ∙ sym b
 
-  before_at : (j m u : ℕ) → j < n → Place j m → Has (nth X j m).past u → Reached n X (λ i. get_or (nth X j m).clock i 0) u
+  before_at : (j m u : ℕ) → j < n → Place j m → ContainsAt (nth X j m).past u → Reached n X (λ i. get_or (nth X j m).clock i 0) u
   before_at j m u jn (old lt) p = subst (λ (z : Made). Reached n X (λ i. get_or z.clock i 0) u) (sym (L.same j m lt))
-      (reached_longer n W X _ _ u L (λ i inn. omega arith) (h.before j m u jn lt (subst (λ (z : Made). Has z.past u) (L.same j m lt) p)))
+      (reached_longer n W X _ _ u L (λ i inn. omega arith) (h.before j m u jn lt (subst (λ (z : Made). ContainsAt z.past u) (L.same j m lt) p)))
   before_at j m u jn (last_one e q) p = subst (λ (z : Made). Reached n X (λ i. get_or z.clock i 0) u) (sym (tag_last j m e q))
       (reached_longer n W X (C s) (λ i. get_or M.clock i 0) u L (λ i inn. let a = clock i inn in let b = grows s i in omega arith)
-      (h.reached s u sn (subst (λ l. Has l u) past (subst (λ (z : Made). Has z.past u) (tag_last j m e q) p))))
+      (h.reached s u sn (subst (λ l. ContainsAt l u) past (subst (λ (z : Made). ContainsAt z.past u) (tag_last j m e q) p))))
 
-  reached_at : (k u : ℕ) → k < n → Has (B k) u → Reached n X (D k) u
+  reached_at : (k u : ℕ) → k < n → ContainsAt (B k) u → Reached n X (D k) u
   reached_at k u kn p = elim (cases_eq k s) [
     | inl e ↦ rw e (⊎_elim (λ q. reached_longer n W X (C s) (D s) u L (λ i _. grows s i) (h.reached s u sn q))
         (λ q. record { writer = s; place = length (W s); is_server = sn; below = let a = here in let b = h.own s sn in omega arith; among = let l = length_here in omega arith; tag = ap (λ (z : Made). z.tag) last ∙ q })
-        (has_push_cases (A s) M.tag u (subst (λ l. Has l u) more (subst (λ i. Has (B i) u) e p))))
-    | inr ne ↦ reached_longer n W X (C k) (D k) u L (λ i _. grows k i) (h.reached k u kn (subst (λ l. Has l u) (rest k ne) p))
+        (has_push_cases (A s) M.tag u (subst (λ l. ContainsAt l u) more (subst (λ i. ContainsAt (B i) u) e p))))
+    | inr ne ↦ reached_longer n W X (C k) (D k) u L (λ i _. grows k i) (h.reached k u kn (subst (λ l. ContainsAt l u) (rest k ne) p))
   ]
 
-  applied_at : (k j m : ℕ) → k < n → j < n → Count k j m → Has (B k) (nth X j m).tag
+  applied_at : (k j m : ℕ) → k < n → j < n → Count k j m → ContainsAt (B k) (nth X j m).tag
   applied_at k j m kn jn (old_count lt) =
       let lw : m < length (W j) = let a = h.most k j kn jn in omega arith in
-      let q : Has (A k) (nth X j m).tag = subst (Has (A k)) (sym (old_tag j m lw)) (h.applied k j m kn jn lt) in
+      let q : ContainsAt (A k) (nth X j m).tag = subst (ContainsAt (A k)) (sym (old_tag j m lw)) (h.applied k j m kn jn lt) in
       elim (cases_eq k s) [
-        | inl e ↦ let q' : Has (A s) (nth X j m).tag = rw e at q in rw (e, more) (has_append_left (A s) (M.tag ∷ []) (nth X j m).tag q')
+        | inl e ↦ let q' : ContainsAt (A s) (nth X j m).tag = rw e at q in rw (e, more) (has_append_left (A s) (M.tag ∷ []) (nth X j m).tag q')
         | inr ne ↦ rw (rest k ne) q
       ]
-  applied_at k j m kn jn (last_count e p q) = subst (λ i. Has (B i) (nth X j m).tag) (sym e) (subst (λ (z : Made). Has (B s) z.tag) (sym (tag_last j m p q)) (subst (λ l. Has l M.tag) (sym more) (has_push (A s) M.tag)))
+  applied_at k j m kn jn (last_count e p q) = subst (λ i. ContainsAt (B i) (nth X j m).tag) (sym e) (subst (λ (z : Made). ContainsAt (B s) z.tag) (sym (tag_last j m p q)) (subst (λ l. ContainsAt l M.tag) (sym more) (has_push (A s) M.tag)))
 
   brings_at : (k j m : ℕ) → k < n → j < n → Count k j m → (i : ℕ) → i < n → get_or (nth X j m).clock i 0 ≤ D k i
   brings_at k j m kn jn (old_count lt) i inn =
@@ -260,14 +260,14 @@ module _ (n : ℕ) (W : Writes) (A B : ℕ → List ℕ) (C D : ℕ → ℕ → 
     | inr ne ↦ old_seen (let z = far k ne j in omega arith)
   ]
 
-  applied_seen : (k j p : ℕ) → k < n → j < n → Seen k j p → Has (B k) (nth W j p).tag
+  applied_seen : (k j p : ℕ) → k < n → j < n → Seen k j p → ContainsAt (B k) (nth W j p).tag
   applied_seen k j p kn jn (old_seen lt) =
       let q = h.applied k j p kn jn lt in
       elim (cases_eq k s) [
-        | inl e ↦ let q' : Has (A s) (nth W j p).tag = rw e at q in rw (e, more) (has_append_left (A s) ((nth W a m).tag ∷ []) (nth W j p).tag q')
+        | inl e ↦ let q' : ContainsAt (A s) (nth W j p).tag = rw e at q in rw (e, more) (has_append_left (A s) ((nth W a m).tag ∷ []) (nth W j p).tag q')
         | inr ne ↦ rw (rest k ne) q
       ]
-  applied_seen k j p kn jn (last_seen e q r) = rw (e, q, r) (subst (λ l. Has l (nth W a m).tag) (sym more) (has_push (A s) (nth W a m).tag))
+  applied_seen k j p kn jn (last_seen e q r) = rw (e, q, r) (subst (λ l. ContainsAt l (nth W a m).tag) (sym more) (has_push (A s) (nth W a m).tag))
 
   brings_seen : (k j p : ℕ) → k < n → j < n → Seen k j p → (i : ℕ) → i < n → get_or (nth W j p).clock i 0 ≤ D k i
   brings_seen k j p kn jn (old_seen lt) i inn = let x = h.brings k j p kn jn lt i inn in let y = up k i in omega arith
@@ -286,8 +286,8 @@ module _ (n : ℕ) (W : Writes) (A B : ℕ → List ℕ) (C D : ℕ → ℕ → 
     reached = λ k u kn p. elim (cases_eq k s) [
       | inl e ↦ rw e (⊎_elim (λ q. reached_longer n W W (C s) (D s) u (record { more = λ j. omega arith; same = λ j p lt. refl }) (λ i _. up s i) (h.reached s u sn q))
           (λ q. record { writer = a; place = m; is_server = an; below = omega arith; among = lm; tag = q })
-          (has_push_cases (A s) (nth W a m).tag u (subst (λ l. Has l u) more (subst (λ i. Has (B i) u) e p))))
-      | inr ne ↦ reached_longer n W W (C k) (D k) u (record { more = λ j. omega arith; same = λ j p lt. refl }) (λ i _. up k i) (h.reached k u kn (subst (λ l. Has l u) (rest k ne) p))
+          (has_push_cases (A s) (nth W a m).tag u (subst (λ l. ContainsAt l u) more (subst (λ i. ContainsAt (B i) u) e p))))
+      | inr ne ↦ reached_longer n W W (C k) (D k) u (record { more = λ j. omega arith; same = λ j p lt. refl }) (λ i _. up k i) (h.reached k u kn (subst (λ l. ContainsAt l u) (rest k ne) p))
     ];
     applied = λ k j p kn jn lt. applied_seen k j p kn jn (seen k j p lt);
     counted = h.counted;
@@ -299,7 +299,7 @@ module _ (n : ℕ) (W : Writes) (A B : ℕ → List ℕ) (C D : ℕ → ℕ → 
 
 -- ---- a write brings its past
 
-pub past_brought : (n : ℕ) (W : Writes) (A : ℕ → List ℕ) (C : ℕ → ℕ → ℕ) → Counts n W A C → (j m s : ℕ) → j < n → m < length (W j) → s < n → Has (A s) (nth W j m).tag → (u : ℕ) → Has (nth W j m).past u → Has (A s) u
+pub past_brought : (n : ℕ) (W : Writes) (A : ℕ → List ℕ) (C : ℕ → ℕ → ℕ) → Counts n W A C → (j m s : ℕ) → j < n → m < length (W j) → s < n → ContainsAt (A s) (nth W j m).tag → (u : ℕ) → ContainsAt (nth W j m).past u → ContainsAt (A s) u
 past_brought n W A C h j m s jn lt sn p u q =
     let r = h.reached s (nth W j m).tag sn p in
     let same_writer : r.writer ≡ j = sym (h.server r.writer r.place r.is_server r.among) ∙ ap (λ t. t % 6) r.tag ∙ h.server j m jn lt in
@@ -309,4 +309,4 @@ past_brought n W A C h j m s jn lt sn p u q =
     let below : m < C s j = subst (λ i. i < C s j) same_place (subst (λ i. r.place < C s i) same_writer r.below) in
     let b = h.before j m u jn lt q in
     let le = h.brings s j m sn jn below b.writer b.is_server in
-    subst (Has (A s)) b.tag (h.applied s b.writer b.place sn b.is_server (let z = b.below in omega arith))
+    subst (ContainsAt (A s)) b.tag (h.applied s b.writer b.place sn b.is_server (let z = b.below in omega arith))

@@ -1,6 +1,6 @@
 -- The highest applied tag of an object is the own tag or the highest held one; an open client read has it as its tag.
 use Rattle.std.proofs.Common.{◌≡◌, ℕ, ◌+◌, ◌<◌, ◌≤◌, max, Bool, true, false, cond, ◌&&◌, ◌||◌, eqb, ltb, List, [], ◌∷◌, ◌++◌, sym, refl, ap, ◌∙◌, ap₂, inl, inr, ⊎_elim, arith}
-use Rattle.std.specs.List.{AllByRecursion as All}
+use Rattle.std.specs.List.{AllByRecursion}
 use Rattle.std.proofs.lemmas.Bool.{and_right, both_ways, cases_Bool, cases_eq, eq-eqb, ne_eqb, eqb-true, lt-ltb, and_parts, and_from, and_cases, or_left, or_right, cond_both}
 use Rattle.rules.proofs.RankedMessages.{Message}
 use Rattle.rules.proofs.RankedWords.{upd, Lanes}
@@ -29,7 +29,7 @@ best_push L x (u ∷ A) t = elim (cases_Bool (enters L x u)) [
   | inr q ↦ rw q (best_push L x A t)
 ]
 
-pub best_log : (L : List Entry) (e : Entry) (x : ℕ) (A : List ℕ) → All (λ u. u ≡ e.tag → ⊥) A → best (L ++ e ∷ []) x A ≡ best L x A
+pub best_log : (L : List Entry) (e : Entry) (x : ℕ) (A : List ℕ) → AllByRecursion (λ u. u ≡ e.tag → ⊥) A → best (L ++ e ∷ []) x A ≡ best L x A
 best_log L e x [] h = refl
 best_log L e x (u ∷ A) h =
     let same : enters (L ++ e ∷ []) x u ≡ enters L x u =

@@ -1,6 +1,6 @@
 -- Where entries and tags come from: a claim on every entry, and one on every tag of an object, that every call keeps.
 use Rattle.std.proofs.Common.{◌≡◌, ℕ, zero, suc, ◌+◌, ◌-◌, ◌<◌, Bool, true, false, cond, not, ◌&&◌, ◌||◌, eqb, ltb, leb, List, [], ◌∷◌, ◌++◌, length, get_or, take, drop, Some, None, filter, Option, refl, subst, inl, inr, ⊎_elim, arith}
-use Rattle.std.specs.List.{AllByRecursion as All}
+use Rattle.std.specs.List.{AllByRecursion}
 use Rattle.std.proofs.lemmas.Bool.{both_ways, cases_eq, eqb-true, leb-false, and_parts, or_cases, cond_both}
 use Rattle.rules.proofs.RankedMessages.{Message, Written, Tagged, Question, Plain, Coded, tag, height, server}
 use Rattle.rules.proofs.RankedWords.{upd, listed, Lanes, posted, spread, taken}
@@ -42,8 +42,8 @@ next_below g p ws n i e = (next_picks g p ws n i e).below
 module _ (g : Code) (E : Entry → Type 0) (O : ℕ → ℕ → Type 0) where
   pub record Owner (p : Server) : Type 0 where
     pub own : (x : ℕ) → O x (p.own x)
-    pub history : All E p.history
-    pub waiting : All (λ v. E (waited g v)) p.waiting
+    pub history : AllByRecursion E p.history
+    pub waiting : AllByRecursion (λ v. E (waited g v)) p.waiting
     pub reads : (i y : ℕ) → O y ((p.reads i).tags y)
 
   -- of a message from a
@@ -56,15 +56,15 @@ module _ (g : Code) (E : Entry → Type 0) (O : ℕ → ℕ → Type 0) where
 
   pub record Sourced (S : State) : Type 0 where
     pub servers : (s : ℕ) → Owner (S.servers s)
-    pub lanes : (a b : ℕ) → All (Sent a) (S.lanes a b)
+    pub lanes : (a b : ℕ) → AllByRecursion (Sent a) (S.lanes a b)
 
   abbrev pub Chosen : Option Picked → Type 0
   Chosen None = Unit {0}
-  Chosen (Some b) = E (waited g b.write) × All (λ v. E (waited g v)) b.others
+  Chosen (Some b) = E (waited g b.write) × AllByRecursion (λ v. E (waited g v)) b.others
 
 module _ (g : Code) (E : Entry → Type 0) (O : ℕ → ℕ → Type 0) (up : (e : Entry) → E e → O e.object e.tag) (none : (x : ℕ) → O x 0) where
   -- what is entered has its claim
-  entered_tag : (es : List Entry) (x t : ℕ) → All E es → enters es x t ≡ true → O x t
+  entered_tag : (es : List Entry) (x t : ℕ) → AllByRecursion E es → enters es x t ≡ true → O x t
   unfolding enters
   entered_tag [] x t h e = absurd (both_ways false refl e)
   entered_tag (d ∷ es) x t h e = ⊎_elim
@@ -79,7 +79,7 @@ module _ (g : Code) (E : Entry → Type 0) (O : ℕ → ℕ → Type 0) (up : (e
   upd_tags : (rs : ℕ → Read) (i : ℕ) (r : Read) → ((j y : ℕ) → O y ((rs j).tags y)) → ((y : ℕ) → O y (r.tags y)) → (j y : ℕ) → O y ((upd rs i r j).tags y)
   upd_tags rs i r h new j y = elim (cases_eq j i) [ inl e ↦ rw (e, upd_same rs i r) (new y) | inr ne ↦ rw (upd_other rs i j r ne) (h j y) ]
 
-  write_owner : (p : Server) (j c h : ℕ) (ws : List Waiting) (e : Entry) (all : Bool) (x t : ℕ) (v : List ℕ) → Owner g E O p → E e → All (λ v. E (waited g v)) ws
+  write_owner : (p : Server) (j c h : ℕ) (ws : List Waiting) (e : Entry) (all : Bool) (x t : ℕ) (v : List ℕ) → Owner g E O p → E e → AllByRecursion (λ v. E (waited g v)) ws
       → Owner g E O (reading (entered (counted (queued p ws) j c h) e) (overtaken p.reads all x t v))
   unfolding reading entered counted queued
   write_owner p j c h ws e all x t v o new w = record {
@@ -94,7 +94,7 @@ module _ (g : Code) (E : Entry → Type 0) (O : ℕ → ℕ → Type 0) (up : (e
   unfolding reading entered counted queued
   written_owner p j c h e all x t v o new = write_owner p j c h p.waiting e all x t v o new o.waiting
 
-  pub picked_all : (p : Server) (ws : List Waiting) → All (λ v. E (waited g v)) ws → Chosen g E O (picked g p ws)
+  pub picked_all : (p : Server) (ws : List Waiting) → AllByRecursion (λ v. E (waited g v)) ws → Chosen g E O (picked g p ws)
   unfolding picked
   picked_all p ws h = picks (next_ready g p ws (length ws)) (λ i e. next_below g p ws (length ws) i e)
     where
@@ -106,24 +106,24 @@ module _ (g : Code) (E : Entry → Type 0) (O : ℕ → ℕ → Type 0) (up : (e
       )
 
   -- ---- lanes
-  spread_all : (L : Lanes) (i n : ℕ) (m : Message) → ((a b : ℕ) → All (Sent g E O a) (L a b)) → Sent g E O i m → (a b : ℕ) → All (Sent g E O a) (spread L i n m a b)
+  spread_all : (L : Lanes) (i n : ℕ) (m : Message) → ((a b : ℕ) → AllByRecursion (Sent g E O a) (L a b)) → Sent g E O i m → (a b : ℕ) → AllByRecursion (Sent g E O a) (spread L i n m a b)
   unfolding spread
-  spread_all L i n m h new a b = cond_both (eqb a i && (ltb b n && not (eqb b i))) (L a b ++ m ∷ []) (L a b) (All (Sent g E O a))
+  spread_all L i n m h new a b = cond_both (eqb a i && (ltb b n && not (eqb b i))) (L a b ++ m ∷ []) (L a b) (AllByRecursion (Sent g E O a))
       (λ e. All-push (Sent g E O a) (L a b) m (h a b) (rw (eqb-true a i (and_parts (eqb a i) (ltb b n && not (eqb b i)) e).0) new)) (λ _. h a b)
 
-  posted_all : (L : Lanes) (i j : ℕ) (m : Message) → ((a b : ℕ) → All (Sent g E O a) (L a b)) → Sent g E O i m → (a b : ℕ) → All (Sent g E O a) (posted L i j m a b)
+  posted_all : (L : Lanes) (i j : ℕ) (m : Message) → ((a b : ℕ) → AllByRecursion (Sent g E O a) (L a b)) → Sent g E O i m → (a b : ℕ) → AllByRecursion (Sent g E O a) (posted L i j m a b)
   unfolding posted
-  posted_all L i j m h new a b = cond_both (eqb a i && eqb b j) (L a b ++ m ∷ []) (L a b) (All (Sent g E O a))
+  posted_all L i j m h new a b = cond_both (eqb a i && eqb b j) (L a b ++ m ∷ []) (L a b) (AllByRecursion (Sent g E O a))
       (λ e. All-push (Sent g E O a) (L a b) m (h a b) (rw (eqb-true a i (and_parts (eqb a i) (eqb b j) e).0) new)) (λ _. h a b)
 
-  taken_all : (L : Lanes) (i j : ℕ) → ((a b : ℕ) → All (Sent g E O a) (L a b)) → (a b : ℕ) → All (Sent g E O a) (taken L i j a b)
+  taken_all : (L : Lanes) (i j : ℕ) → ((a b : ℕ) → AllByRecursion (Sent g E O a) (L a b)) → (a b : ℕ) → AllByRecursion (Sent g E O a) (taken L i j a b)
   unfolding taken
-  taken_all L i j h a b = cond_both (eqb a i && eqb b j) (drop 1 (L a b)) (L a b) (All (Sent g E O a)) (λ _. All-drop (Sent g E O a) 1 (L a b) (h a b)) (λ _. h a b)
+  taken_all L i j h a b = cond_both (eqb a i && eqb b j) (drop 1 (L a b)) (L a b) (AllByRecursion (Sent g E O a)) (λ _. All-drop (Sent g E O a) 1 (L a b) (h a b)) (λ _. h a b)
 
   abbrev Kept : Turn → Type 0
   Kept t = Sourced g E O t.next
 
-  put_sourced : (S : State) (s : ℕ) (r : Server) (L : Lanes) → Sourced g E O S → Owner g E O r → ((a b : ℕ) → All (Sent g E O a) (L a b)) → Sourced g E O (record { servers = upd S.servers s r; lanes = L })
+  put_sourced : (S : State) (s : ℕ) (r : Server) (L : Lanes) → Sourced g E O S → Owner g E O r → ((a b : ℕ) → AllByRecursion (Sent g E O a) (L a b)) → Sourced g E O (record { servers = upd S.servers s r; lanes = L })
   put_sourced S s r L h o l = record {
     servers = λ k. elim (cases_eq k s) [ inl e ↦ rw (e, upd_same S.servers s r) o | inr ne ↦ rw (upd_other S.servers s k r ne) (h.servers k) ];
     lanes = l;
@@ -189,17 +189,17 @@ module _ (g : Code) (E : Entry → Type 0) (O : ℕ → ℕ → Type 0) (up : (e
         unless_both Kept (collect_refusal g S s m l) S (cond (is_open r) (turn Still S) out) h (λ _. cond_both (is_open r) (turn Still S) out Kept (λ _. h)
         (λ _. put_sourced S s (reading p (upd p.reads i no_read)) S.lanes h (reading_owner p i no_read (h.servers s) none) h.lanes))
 
-    sifted_owner : (p : Server) (es : List Entry) → Owner g E O p → All E es → Owner g E O (sifted p es)
+    sifted_owner : (p : Server) (es : List Entry) → Owner g E O p → AllByRecursion E es → Owner g E O (sifted p es)
     unfolding sifted
     sifted_owner p es o a = record { own = o.own; history = a; waiting = o.waiting; reads = o.reads }
 
-    swept_all : (p : Server) (x : ℕ) → All E p.history → All E (swept g p x)
+    swept_all : (p : Server) (x : ℕ) → AllByRecursion E p.history → AllByRecursion E (swept g p x)
     unfolding swept
     swept_all p x a =
         let es = filter (stays g p x) p.history in
         let f : Entry → Bool = λ e. not (same_entry x (p.own x) e) in
         let b = all_kept_by (stays g p x) E p.history a in
-        cond_both (settled g p x es) (filter f es) es (All E) (λ _. all_kept_by f E es b) (λ _. b)
+        cond_both (settled g p x es) (filter f es) es (AllByRecursion E) (λ _. all_kept_by f E es b) (λ _. b)
 
     pub sweep_sourced : (s x : ℕ) → Kept (sweep g S s x)
     unfolding sweep sweep_done
@@ -267,7 +267,7 @@ module _ (g : Code) (E : Entry → Type 0) (O : ℕ → ℕ → Type 0) (up : (e
       unfolding take_done
       take_sourced r o = put_sourced S b r (taken S.lanes a b) h o (taken_all S.lanes a b h.lanes)
 
-      queued_owner : (p : Server) (ws : List Waiting) → Owner g E O p → All (λ v. E (waited g v)) ws → Owner g E O (queued p ws)
+      queued_owner : (p : Server) (ws : List Waiting) → Owner g E O p → AllByRecursion (λ v. E (waited g v)) ws → Owner g E O (queued p ws)
       unfolding queued
       queued_owner p ws o w = record { own = o.own; history = o.history; waiting = w; reads = o.reads }
 
@@ -346,7 +346,7 @@ module _ (g : Code) (E : Entry → Type 0) (O : ℕ → ℕ → Type 0) (up : (e
           (λ _. take_sourced p (h.servers b)))
           (λ _. take_sourced p (h.servers b))
 
-      oldest_sourced : (l : List Message) (f : Found) → All (Sent g E O a) l → ((m : Message) (ms : List Message) → l ≡ m ∷ ms → FoundRight m f) → Kept (oldest g S a b l f)
+      oldest_sourced : (l : List Message) (f : Found) → AllByRecursion (Sent g E O a) l → ((m : Message) (ms : List Message) → l ≡ m ∷ ms → FoundRight m f) → Kept (oldest g S a b l f)
       unfolding oldest
       oldest_sourced [] f all right = h
       oldest_sourced (m ∷ ms) f all right = cond_both (fits g m) (got g S a b m f) (turn (Outcome 7) (take_done g S a b (S.servers b))) Kept

@@ -1,7 +1,7 @@
 -- What stands after each call of a run, of its events and its state.
 use Rattle.std.proofs.Common.{◌≡◌, ℕ, suc, ◌+◌, ◌<◌, true, false, not, ◌&&◌, eqb, ltb, List, [], ◌∷◌, ◌++◌, map, length, sym, refl, ap, ◌∙◌, subst, ap₂, append_assoc, append-nil, arith}
 use mathlib.Core.Path.{fun_ext}
-use Rattle.std.specs.List.{ContainsAt as Has}
+use Rattle.std.specs.List.{ContainsAt}
 use Rattle.std.proofs.lemmas.List.{map-append}
 use Rattle.std.proofs.lemmas.Bool.{both_ways, and_right, and_parts, not-true, eqb-true}
 use Rattle.message.specs.declared.tag.Tag as declared
@@ -433,11 +433,11 @@ module _ (g : Code) (R : Lawful g) (es : List Event) (seen : model.State) (h : S
   past_from before e later split j x v t ec ea s sn has u hu =
       let made = h.made before e later split j x v t ec ea in
       let M = nth h.writes j made.place in
-      let at = has_image tag_at (h.done s) t (subst (λ l. Has l t) (h.tells.applied s) has) in
+      let at = has_image tag_at (h.done s) t (subst (λ l. ContainsAt l t) (h.tells.applied s) has) in
       let same : at.from ≡ M.tag = sym (rank_at at.from) ∙ ap rank (at.is ∙ sym made.tag) ∙ rank_at M.tag in
-      let was = has_image tag_at M.past u (subst (λ l. Has l u) (sym made.past) hu) in
-      let brought = past_brought g.n h.writes h.done (λ s j. (h.state.servers s).clock j) h.traced.counts j made.place s made.is_server made.among sn (subst (Has (h.done s)) same at.has) was.from was.has in
-      subst (λ l. Has l u) (sym (h.tells.applied s)) (subst (Has (map tag_at (h.done s))) was.is (image_has tag_at (h.done s) was.from brought))
+      let was = has_image tag_at M.past u (subst (λ l. ContainsAt l u) (sym made.past) hu) in
+      let brought = past_brought g.n h.writes h.done (λ s j. (h.state.servers s).clock j) h.traced.counts j made.place s made.is_server made.among sn (subst (ContainsAt (h.done s)) same at.has) was.from was.has in
+      subst (λ l. ContainsAt l u) (sym (h.tells.applied s)) (subst (ContainsAt (map tag_at (h.done s))) was.is (image_has tag_at (h.done s) was.from brought))
 
   pub wait_from : rule.OpenReadsWait (layout_of g) es
   wait_from = open_wait g es h.state h.follows h.waits

@@ -1,6 +1,6 @@
 -- Values: what is entered, sent, in hand and coded is what was written under the tags.
 use Rattle.std.proofs.Common.{◌≡◌, ℕ, ◌<◌, ◌≤◌, Bool, true, false, ◌&&◌, eqb, ltb, ◌⊎◌, List, [], ◌∷◌, ◌++◌, length, get_or, sym, refl, ap, ◌∙◌, ap₂, inl, inr, ⊎_elim, arith}
-use Rattle.std.specs.List.{AllByRecursion as All}
+use Rattle.std.specs.List.{AllByRecursion}
 use Rattle.std.proofs.lemmas.Bool.{both_ways, cases_Bool, cases_eq, eqb-true, and_parts, or_cases, cond-true, cond-false}
 use Rattle.rules.proofs.RankedMessages.{Message, Written, Tagged, Question, Plain, Coded}
 use Rattle.rules.proofs.RankedWords.{upd, Lanes}
@@ -12,11 +12,11 @@ use Rattle.rules.proofs.RankedFacts.{Lawful}
 use Rattle.rules.proofs.Algebra.{Cells, Mix}
 
 -- a claim on each message of a lane, by its places
-pub all_placed : (P : Message → Type 0) (l : List Message) → ((pre : List Message) (m : Message) (post : List Message) → l ≡ pre ++ m ∷ post → P m) → All P l
+pub all_placed : (P : Message → Type 0) (l : List Message) → ((pre : List Message) (m : Message) (post : List Message) → l ≡ pre ++ m ∷ post → P m) → AllByRecursion P l
 all_placed P [] h = tt
 all_placed P (m ∷ ms) h = (h [] m ms refl, all_placed P ms (λ pre z post e. h (m ∷ pre) z post (ap (λ l. m ∷ l) e)))
 
-pub all_both : (P Q R : Message → Type 0) (l : List Message) → ((m : Message) → P m → Q m → R m) → All P l → All Q l → All R l
+pub all_both : (P Q R : Message → Type 0) (l : List Message) → ((m : Message) → P m → Q m → R m) → AllByRecursion P l → AllByRecursion Q l → AllByRecursion R l
 all_both P Q R [] f p q = tt
 all_both P Q R (m ∷ ms) f p q = (f m p.0 q.0, all_both P Q R ms f p.1 q.1)
 
@@ -59,10 +59,10 @@ module _ (g : Code) (R : Lawful g) (L : List Entry) where
 
   pub record Valued (S : State) : Type 0 where
     pub servers : (s : ℕ) → s < g.n → Right s (S.servers s)
-    pub lanes : (a b : ℕ) → a < g.n → b < g.n → (a ≡ b → ⊥) → All (Told a (S.servers a) (S.servers b)) (S.lanes a b)
+    pub lanes : (a b : ℕ) → a < g.n → b < g.n → (a ≡ b → ⊥) → AllByRecursion (Told a (S.servers a) (S.servers b)) (S.lanes a b)
 
   -- ---- what a history keeps is what was written
-  entered_right : (es : List Entry) (x t : ℕ) → All OfEntry es → enters es x t ≡ true → entered_value g es x t ≡ kept g L x t
+  entered_right : (es : List Entry) (x t : ℕ) → AllByRecursion OfEntry es → enters es x t ≡ true → entered_value g es x t ≡ kept g L x t
   unfolding entered_value enters
   entered_right [] x t all e = absurd (both_ways false refl e)
   entered_right (d ∷ es) x t all e = elim (cases_Bool (same_entry x t d)) [
@@ -80,7 +80,7 @@ module _ (g : Code) (R : Lawful g) (L : List Entry) where
   unfolding kept
   past_zero es x t q = cond-false (eqb t 0) (zeros g) (entered_value g es x t) q
 
-  pub kept_right : (es : List Entry) (x t : ℕ) → Cells g R L → All OfEntry es → holds es x t ≡ true → kept g es x t ≡ kept g L x t
+  pub kept_right : (es : List Entry) (x t : ℕ) → Cells g R L → AllByRecursion OfEntry es → holds es x t ≡ true → kept g es x t ≡ kept g L x t
   kept_right es x t cells all e = elim (cases_Bool (eqb t 0)) [
     | inl q ↦ zero_kept es x t q ∙ sym (zero_kept L x t q)
     | inr q ↦ past_zero es x t q ∙ entered_right es x t all (⊎_elim (λ w. absurd (both_ways (eqb t 0) q w)) (λ w. w) (or_cases (eqb t 0) (enters es x t) e))
@@ -94,7 +94,7 @@ module _ (g : Code) (R : Lawful g) (L : List Entry) where
   Bound p r (Plain m v) = m ≤ r.opened
   Bound p r (Coded m v st) = m ≤ r.opened
 
-  bounds : (S : State) → Fine g S → (a b : ℕ) → a < g.n → b < g.n → (a ≡ b → ⊥) → All (Bound (S.servers a) (S.servers b)) (S.lanes a b)
+  bounds : (S : State) → Fine g S → (a b : ℕ) → a < g.n → b < g.n → (a ≡ b → ⊥) → AllByRecursion (Bound (S.servers a) (S.servers b)) (S.lanes a b)
   bounds S h a b an bn ne = all_placed (Bound (S.servers a) (S.servers b)) (S.lanes a b) (λ pre m post e. bound m pre (h.lanes a b an bn ne pre m post e))
     where
       bound : (m : Message) (pre : List Message) → Good g.n g.k (has g) (core S) a b pre m → Bound (S.servers a) (S.servers b) m
@@ -120,7 +120,7 @@ module _ (g : Code) (R : Lawful g) (L : List Entry) where
 
   -- lanes as they were, between servers whose reads are still
   pub lanes_still : (S : State) (servers : ℕ → Server) → Fine g S → Valued S → ((s : ℕ) → StillReads (S.servers s) (servers s))
-      → (a b : ℕ) → a < g.n → b < g.n → (a ≡ b → ⊥) → All (Told a (servers a) (servers b)) (S.lanes a b)
+      → (a b : ℕ) → a < g.n → b < g.n → (a ≡ b → ⊥) → AllByRecursion (Told a (servers a) (servers b)) (S.lanes a b)
   lanes_still S servers f h still a b an bn ne =
       all_both (Bound (S.servers a) (S.servers b)) (Told a (S.servers a) (S.servers b)) (Told a (servers a) (servers b)) (S.lanes a b)
       (told_still a (S.servers a) (servers a) (S.servers b) (servers b) (still a) (still b)) (bounds S f a b an bn ne) (h.lanes a b an bn ne)
@@ -130,7 +130,7 @@ module _ (g : Code) (R : Lawful g) (L : List Entry) where
 
   -- one server changes, lanes stay
   pub put_valued : (S : State) (s : ℕ) (r : Server) (Ln : Lanes) → Fine g S → Valued S → (s < g.n → Right s r) → StillReads (S.servers s) r
-      → ((a b : ℕ) → a < g.n → b < g.n → (a ≡ b → ⊥) → All (Told a (upd S.servers s r a) (upd S.servers s r b)) (S.lanes a b) → All (Told a (upd S.servers s r a) (upd S.servers s r b)) (Ln a b))
+      → ((a b : ℕ) → a < g.n → b < g.n → (a ≡ b → ⊥) → AllByRecursion (Told a (upd S.servers s r a) (upd S.servers s r b)) (S.lanes a b) → AllByRecursion (Told a (upd S.servers s r a) (upd S.servers s r b)) (Ln a b))
       → Valued (record { servers = upd S.servers s r; lanes = Ln })
   put_valued S s r Ln f h right still change = record {
     servers = λ k kn. elim (cases_eq k s) [ inl e ↦ rw (e, upd_same S.servers s r) (right (rw e at kn)) | inr ne ↦ rw (upd_other S.servers s k r ne) (h.servers k kn) ];

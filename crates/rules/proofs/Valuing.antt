@@ -1,6 +1,6 @@
 -- Every call keeps the values right.
 use Rattle.std.proofs.Common.{◌≡◌, ℕ, ◌+◌, ◌-◌, ◌<◌, Bool, true, false, cond, not, ◌&&◌, ◌||◌, eqb, ltb, leb, List, [], ◌∷◌, ◌++◌, length, get_or, Some, None, Option, sym, refl, ap, ◌∙◌, inl, inr, ⊎_elim, arith}
-use Rattle.std.specs.List.{AllByRecursion as All}
+use Rattle.std.specs.List.{AllByRecursion}
 use Rattle.std.proofs.lemmas.Bool.{both_ways, cases_eq, eqb-true, leb-false, and_parts, and_from, or_right, not-false, cond_both}
 use Rattle.rules.proofs.RankedMessages.{Message, Written, Tagged, Question, height, server}
 use Rattle.rules.proofs.RankedWords.{upd, listed, spread}
@@ -63,9 +63,9 @@ module _ (g : Code) (R : Lawful g) (L : List Entry) (cells : Cells g R L) where
         → Valued g R L (record { servers = upd S.servers s r; lanes = S.lanes })
     plain_put s r eo es er = put_valued g R L S s r S.lanes f h (λ sn. right_same s (S.servers s) r (h.servers s sn) eo es er) (still_same (S.servers s) r er) (λ a b an bn ne q. q)
 
-    spread_told : (P : ℕ → ℕ → Message → Type 0) (i : ℕ) (m : Message) (a b : ℕ) → (a ≡ i → P a b m) → All (P a b) (S.lanes a b) → All (P a b) (spread S.lanes i g.n m a b)
+    spread_told : (P : ℕ → ℕ → Message → Type 0) (i : ℕ) (m : Message) (a b : ℕ) → (a ≡ i → P a b m) → AllByRecursion (P a b) (S.lanes a b) → AllByRecursion (P a b) (spread S.lanes i g.n m a b)
     unfolding spread
-    spread_told P i m a b new q = cond_both (eqb a i && (ltb b g.n && not (eqb b i))) (S.lanes a b ++ m ∷ []) (S.lanes a b) (All (P a b))
+    spread_told P i m a b new q = cond_both (eqb a i && (ltb b g.n && not (eqb b i))) (S.lanes a b ++ m ∷ []) (S.lanes a b) (AllByRecursion (P a b))
         (λ e. All-push (P a b) (S.lanes a b) m q (new (eqb-true a i (and_parts (eqb a i) (ltb b g.n && not (eqb b i)) e).0))) (λ _. q)
 
     -- ---- write, apply, collect, sweep

@@ -1,6 +1,6 @@
 -- The law over all runs. Assumes nothing.
 use Rattle.std.specs.Prelude.{◌≡◌, ℕ, suc, ◌<◌, Bool, true, false, ◌||◌, List, ◌∷◌, ◌++◌, length, ◌==◌, ◌≢◌, slice_index_or}
-use Rattle.std.specs.List.{ContainsAt as Has, AllByRecursion as All}
+use Rattle.std.specs.List.{ContainsAt, AllByRecursion}
 use Rattle.terms.specs.Limits.{max_client_reads}
 use Rattle.message.specs.declared.tag.Tag.{Tag}
 use Rattle.field.specs.Laws.{Ring}
@@ -33,7 +33,7 @@ module _ (l : Layout) where
 
   -- Of no open read do its server and its repliers together recover its object.
   abbrev pub OpenReadsWait : List Event → Type 0
-  OpenReadsWait es = (s : ℕ) → s < l.code.servers → All (λ r. r.is_open ≡ true → Recovers l.code (with_own s r.repliers) r.object → ⊥) (reads_of l s es)
+  OpenReadsWait es = (s : ℕ) → s < l.code.servers → AllByRecursion (λ r. r.is_open ≡ true → Recovers l.code (with_own s r.repliers) r.object → ⊥) (reads_of l s es)
 
   -- (c) A read that gave a value at once gave that of the latest of its object at its server.
   abbrev pub ReadAtOnce : List Event → Type 0
@@ -69,7 +69,7 @@ module _ (l : Layout) where
   -- An applied write brings its past: where it is applied, every write that its server had applied when it made it is applied.
   abbrev pub PastApplied : List Event → Type 0
   PastApplied es = EachEvent es (λ before e. (j x : ℕ) (v : List ℕ) (t : Tag) → e.call ≡ Write j x v → e.answer ≡ Tagged t
-      → (s : ℕ) → s < l.code.servers → Has (applied s es) t → (u : Tag) → Has (applied j before) u → Has (applied s es) u)
+      → (s : ℕ) → s < l.code.servers → ContainsAt (applied s es) t → (u : Tag) → ContainsAt (applied j before) u → ContainsAt (applied s es) u)
 
   -- No two accepted writes share a tag.
   abbrev pub TagsDiffer : List Event → Type 0

@@ -1,4 +1,4 @@
-use Rattle.std.proofs.Common.{◌≡◌, ◌<◌, Bool, length, None, vec_items, ap, arith}
+use Rattle.std.proofs.Common.{◌<◌, Bool, length, None, vec_items, ap, arith}
 use Rattle.std.proofs.lemmas.Bool.{lt-ltb}
 use Rattle.terms.specs.Answers.{unless}
 use Rattle.terms.specs.declared.refusal.Refusal.TheVariants.{NoSuchServer}

@@ -1,4 +1,4 @@
-use Rattle.std.proofs.Common.{◌≡◌, List, vec_items, sym, refl, ap, ◌∙◌, subst, arith}
+use Rattle.std.proofs.Common.{List, vec_items, sym, refl, subst, arith}
 use Rattle.server_split.specs.declared.server.Server.{Server}
 use Rattle.group_split.specs.States.{AllNew}
 use Rattle.group_split.proofs.Places.{new_more}
@@ -13,8 +13,8 @@ pub loop-i-preserved : goal.loop-i-preserved
 loop-i-preserved g c =
     let cells = c.args.code.now.cells in
     let P : List Server → Type 0 = AllNew cells in (
-      omega (arith, c.in-ok-push.ensures.len),
-      subst P (sym c.in-ok-push.ensures.items) (new_more cells (vec_items c.loop-i.servers) c.in-ok-new.field-0 c.in-ok-new.ensures.new c.loop-i.invariant.1),
+      omega (arith, c.in_ok-push.ensures.len),
+      subst P (sym c.in_ok-push.ensures.items) (new_more cells (vec_items c.loop-i.servers) c.in_ok-new.field-0 c.in_ok-new.ensures.new c.loop-i.invariant.1),
     )
 
 pub returns : goal.returns

@@ -1,4 +1,4 @@
-use Rattle.std.proofs.Common.{◌≡◌, ℕ, ◌<◌, length, refl, ap, ◌∙◌, arith}
+use Rattle.std.proofs.Common.{◌≡◌, ℕ, ◌<◌, length, ap, ◌∙◌, arith}
 use Rattle.terms.specs.Items.{items}
 use Rattle.terms.specs.Lists.{listed}
 use Rattle.terms.proofs.Listed.{length_listed, listed_push}
@@ -13,7 +13,7 @@ loop-j-preserved g c =
     let f = (server c.args.holder.now).clock in
     let so_far = items c.loop-j.clock in
     let room : length so_far < 6 = omega (arith, ap length c.loop-j.invariant, length_listed c.loop-j.j f, c.args.code.now.most_servers) in
-    c.push.ensures.added room ∙ listed_push so_far c.loop-j.j f c.count-of.result c.loop-j.invariant c.count-of.ensures.counted
+    c.push.ensures.added room ∙ listed_push so_far c.loop-j.j f c.count_of.result c.loop-j.invariant c.count_of.ensures.counted
 
 pub returns : goal.returns
 returns g c =
