@@ -8,13 +8,13 @@ use Rattle.reads.specs.declared.reads.Read.TheVariants as ReadOf
 use Rattle.reads.specs.Readings.{read}
 use Rattle.rules.specs.Delivering.{client_answer, internal_answer}
 use Rattle.rules.specs.Histories.{Entry}
-use Rattle.rules.specs.State.{Layout, Server, Asking, Read, Free, Open}
+use Rattle.rules.specs.State.{Layout, Server, Asking, Read, Free}
 use Rattle.rules.specs.Turns.{Outcome, check}
 use Rattle.rules.specs.Updates.{entered, reading}
 use Rattle.rules.specs.Words.{upd}
 use Rattle.server_split.specs.Steps.{has_room}
 use Rattle.steps.specs.Local.{Local, local, refused_or}
-use Rattle.replies.specs.Receiving.{dropped_local, settle_local, plain_by, plain_from, coded_by, coded_from}
+use Rattle.replies.specs.Receiving.{dropped_local, settle_local, plain_by, plain_from}
 
 -- the entry enters, and then the place is free
 pub entered_freed : (p q : Server) (e : Entry) (i : ℕ) → has_room p ≡ true → q ≡ cond (has_room p) (entered p e) p → reading q (upd q.reads i Free) ≡ reading (entered p e) (upd p.reads i Free)

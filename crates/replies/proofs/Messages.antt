@@ -1,16 +1,14 @@
 -- A message that is delivered. Assumes nothing.
-use Rattle.std.proofs.Common.{◌≡◌, ℕ, ◌<◌, ◌≤◌, Bool, true, false, cond, ◌&&◌, ltb, leb, List, length, Some, None, Option, sym, refl, ap, ◌∙◌, subst, ap₂, arith}
+use Rattle.std.proofs.Common.{◌≡◌, ℕ, ◌≤◌, Bool, true, false, cond, ◌&&◌, ltb, leb, List, length, None, sym, ap, ◌∙◌, subst, ap₂}
 use Rattle.std.proofs.lemmas.Bool.{both_ways, and_parts, leb-true, lt-ltb}
-use Rattle.terms.specs.declared.refusal.Refusal.{Refusal}
 use Rattle.terms.specs.declared.refusal.Refusal.TheVariants.{NoSuchServer}
 use Rattle.message.specs.declared.kinds.Message.{Message}
 use Rattle.message.specs.Meanings.{Meaning, meaning, plain_reply}
 use Rattle.message.specs.Ranges.{in_range, read_ok, cells_ok}
 use Rattle.code.specs.Codings.{Coding}
 use Rattle.rules.specs.Delivering.{fits, fits_group}
-use Rattle.rules.specs.Runs.{AllowedMessage}
 use Rattle.rules.specs.State.{Layout, Server}
-use Rattle.rules.specs.Turns.{Found, Outcome, Refused, check}
+use Rattle.rules.specs.Turns.{Outcome, Refused, check}
 use Rattle.server_split.specs.Steps.{laid}
 use Rattle.steps.specs.Local.{Local, local, refused_or}
 use Rattle.steps.specs.Reading.{found_of}

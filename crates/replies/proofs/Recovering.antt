@@ -1,5 +1,5 @@
 -- Recovery by sets that agree on the servers of a code. Assumes nothing.
-use Rattle.std.proofs.Common.{◌≡◌, ℕ, suc, ◌+◌, ◌<◌, ◌≤◌, Bool, true, false, cond, not, ◌&&◌, ◌||◌, eqb, ltb, List, [], ◌∷◌, length, get_or, Some, None, Option, sym, refl, ap, ◌∙◌, arith, MatchOption}
+use Rattle.std.proofs.Common.{◌≡◌, ℕ, ◌<◌, ◌≤◌, Bool, true, false, cond, not, ◌&&◌, ◌||◌, ltb, List, ◌∷◌, length, get_or, Some, None, Option, sym, refl, ap, ◌∙◌, arith, MatchOption}
 use Rattle.std.proofs.lemmas.Bool.{eq-eqb, ne_eqb, lt-ltb}
 use Rattle.terms.specs.Items.{items}
 use Rattle.terms.specs.Lists.{listed}
@@ -11,7 +11,7 @@ use Rattle.terms.proofs.Every.{every_all}
 use Rattle.terms.proofs.Listed.{length_listed, listed_at, listed_same}
 use Rattle.field.specs.Laws.{Ring}
 use Rattle.field.proofs.Algebra as algebra
-use Rattle.code.specs.Codings.{Coding, Value, Values, symbol, combination, replaced}
+use Rattle.code.specs.Codings.{Coding, Values, symbol, combination, replaced}
 use Rattle.code.specs.Recovery.{Recovers, Decoded}
 use Rattle.code.specs.Refusing.{known_set, recovers_refusal}
 
@@ -20,12 +20,17 @@ module _ (g : Coding) (set hand : ℕ → Bool) (symbols held : ℕ → List ℕ
   recovers_too r v w V W eq = r v w V W (λ s h t. eq s h (same s h ∙ t))
 
   decoded_too : (v : List ℕ) → Decoded g set symbols x v → Decoded g hand held x v
-  decoded_too v d = record { recovers = λ u w U W eq. d.recovers u w U W (λ s h t. eq s h (sym (same s h) ∙ t)); value = d.value; agrees = λ u U eq. d.agrees u U (λ s h t. shown s h ∙ eq s h (sym (same s h) ∙ t)) }
+  decoded_too v d = record { value = d.value; agrees = λ u U eq. d.agrees u U (λ s h t. shown s h ∙ eq s h (sym (same s h) ∙ t)) }
+
+  hand_recovers : Recovers g set x → Recovers g hand x
+  hand_recovers r v w V W eq = r v w V W (λ s h t. eq s h (sym (same s h) ∙ t))
 
   -- what is found from one is found from the other
-  pub found_too : (o : Option (Bounded ℕ 16)) → MatchOption o (Recovers g set x → ⊥) (λ v. Decoded g set symbols x (items v)) → MatchOption o (Recovers g hand x → ⊥) (λ v. Decoded g hand held x (items v))
+  pub found_too : (o : Option (Bounded ℕ 16))
+      → MatchOption o (Recovers g set x → ⊥) (λ v. Recovers g set x × Decoded g set symbols x (items v))
+      → MatchOption o (Recovers g hand x → ⊥) (λ v. Recovers g hand x × Decoded g hand held x (items v))
   found_too None h = λ r. h (recovers_too r)
-  found_too (Some v) h = decoded_too (items v) h
+  found_too (Some v) h = (hand_recovers h.0, decoded_too (items v) h.1)
 
 -- no set recovers what is no object
 pub not_an_object : (g : Coding) → Ring g.arithmetic → (set : ℕ → Bool) (x : ℕ) → g.objects ≤ x → Recovers g set x → ⊥

@@ -1,10 +1,10 @@
 -- A reply is within the ranges of messages. Assumes nothing.
-use Rattle.std.proofs.Common.{◌≡◌, ℕ, zero, suc, ◌<◌, ◌≤◌, Bool, true, false, cond, ◌&&◌, leb, List, [], ◌∷◌, length, get_or, take, sym, refl, ap, ◌∙◌, subst, arith}
+use Rattle.std.proofs.Common.{◌≡◌, ℕ, zero, suc, ◌<◌, ◌≤◌, true, cond, ◌&&◌, leb, List, [], ◌∷◌, length, get_or, refl, arith}
 use Rattle.std.proofs.lemmas.List.{length-take-le}
 use Rattle.std.proofs.lemmas.Bool.{and_parts, cond_both, leb-true}
 use Rattle.terms.specs.Items.{items}
 use Rattle.terms.specs.Limits.{max_count, max_height, max_objects}
-use Rattle.terms.specs.Lists.{each, listed}
+use Rattle.terms.specs.Lists.{each}
 use Rattle.terms.specs.declared.bounded.Bounded.{Bounded}
 use Rattle.message.specs.declared.tag.Tag.{Tag}
 use Rattle.message.specs.Meanings.{question, write_notice, tag_notice}

@@ -1,5 +1,5 @@
 -- What is found where a coded reply is taken. Assumes nothing.
-use Rattle.std.proofs.Common.{◌≡◌, ℕ, Bool, true, false, List, Some, None, Option, sym, refl, ap, ◌∙◌, subst}
+use Rattle.std.proofs.Common.{◌≡◌, ℕ, Bool, false, List, Some, None, Option, refl, ap, ◌∙◌, subst}
 use Rattle.std.proofs.lemmas.Bool.{both_ways}
 use Rattle.message.specs.declared.tag.Tag.{Tag}
 use Rattle.code.specs.Codings.{Coding}
@@ -24,8 +24,8 @@ use Rattle.replies.specs.Taking.{SymbolTaken, CodedTaken}
 not_recovered : (l : Layout) (set : ℕ → Bool) (symbols : ℕ → List ℕ) (x : ℕ) → (Recovers l.code set x → ⊥) → Tested l set symbols x (found_of None)
 not_recovered l set symbols x none = record { test = (λ e. absurd (both_ways false refl e), λ r. absurd (none r)); decoded = λ e. absurd (both_ways false refl e) }
 
-recovered : (l : Layout) (set : ℕ → Bool) (symbols : ℕ → List ℕ) (x : ℕ) (u : List ℕ) → Decoded l.code set symbols x u → Tested l set symbols x (found_of (Some u))
-recovered l set symbols x u d = record { test = (λ _. d.recovers, λ _. refl); decoded = λ _. d }
+recovered : (l : Layout) (set : ℕ → Bool) (symbols : ℕ → List ℕ) (x : ℕ) (u : List ℕ) → Recovers l.code set x × Decoded l.code set symbols x u → Tested l set symbols x (found_of (Some u))
+recovered l set symbols x u d = record { test = (λ _. d.0, λ _. refl); decoded = λ _. d.1 }
 
 module _ (g : Coding) (p : Server) (a i : ℕ) (r : Asking) (v : List ℕ) (ts : List Tag) (q : Local) where
   abbrev Made : Option (List ℕ) → Type 0
@@ -49,7 +49,7 @@ module _ (g : Coding) (p : Server) (a i : ℕ) (r : Asking) (v : List ℕ) (ts :
       step = λ places. is ∙ ap (λ (t : Asking). local (Outcome 3) (reading p (upd p.reads i (Open t))) None) e ∙ ap (coded_symbol (laid g places) p a i r (found_of None)) (made places);
     }
 
-    pub symbol_settles : (u : List ℕ) → Decoded g held.hand held.symbols held.object u → ((l : Layout) → q ≡ settle_local l p i held u) → SymbolTaken g p a i r v ts q
+    pub symbol_settles : (u : List ℕ) → Recovers g held.hand held.object × Decoded g held.hand held.symbols held.object u → ((l : Layout) → q ≡ settle_local l p i held u) → SymbolTaken g p a i r v ts q
     symbol_settles u d is = record {
       found = found_of (Some u);
       allowed = λ places.

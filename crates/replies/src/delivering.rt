@@ -1,7 +1,7 @@
 // A message is delivered to a server.
 ghost use Rattle.std.specs.Prelude.{◌≡◌, ℕ, ◌<◌, Bool, true, List, IfOk};
 ghost use Rattle.terms.specs.Items.{items};
-ghost use Rattle.message.specs.Meanings.{write_notice, question, meaning as meaning-of};
+ghost use Rattle.message.specs.Meanings.{write_notice, question, meaning as meaning_of};
 ghost use Rattle.message.specs.Ranges.{in_range};
 ghost use Rattle.code.specs.Codings.{Coding};
 ghost use Rattle.code.specs.Meaning.{meaning};
@@ -104,8 +104,8 @@ fn receive<F: Field + Copy>(
 ) -> Result<DeliverTurn, Refusal>
     requires me_within { me.number < code.now.servers }
     requires from_within { from.number < code.now.servers }
-    requires fit { fits (laid (meaning F.arithmetic code.now) 0) (meaning-of m) ≡ true }
-    ensures taken { MessageTaken (meaning F.arithmetic code.now) (server p.old) from.number me.number back_free (meaning-of m) (deliver_said result (server p.new)) }
+    requires fit { fits (laid (meaning F.arithmetic code.now) 0) (meaning_of m) ≡ true }
+    ensures taken { MessageTaken (meaning F.arithmetic code.now) (server p.old) from.number me.number back_free (meaning_of m) (deliver_said result (server p.new)) }
     ensures sendable { IfOk result (λ t. Sendable t.reply) }
 {
     match m {
@@ -143,7 +143,7 @@ pub fn deliver<F: Field + Copy>(
     m: Message,
     back_free: bool,
 ) -> Result<DeliverTurn, Refusal>
-    ensures delivered { DeliveredBy (meaning F.arithmetic code.now) (server p.old) from.number me.number back_free (meaning-of m) (deliver_said result (server p.new)) }
+    ensures delivered { DeliveredBy (meaning F.arithmetic code.now) (server p.old) from.number me.number back_free (meaning_of m) (deliver_said result (server p.new)) }
     ensures sendable { IfOk result (λ t. Sendable t.reply) }
 {
     if from.number >= code.servers() || me.number >= code.servers() {

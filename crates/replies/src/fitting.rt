@@ -2,7 +2,7 @@
 ghost use Rattle.std.specs.Prelude.{◌≡◌, ℕ, ◌&&◌, ltb, length, ◌==◌, nat_lt, slice_index};
 ghost use Rattle.terms.specs.Items.{items};
 ghost use Rattle.terms.specs.Lists.{each};
-ghost use Rattle.message.specs.Meanings.{meaning as meaning-of};
+ghost use Rattle.message.specs.Meanings.{meaning as meaning_of};
 ghost use Rattle.code.specs.Meaning.{meaning};
 ghost use Rattle.rules.specs.Delivering.{fits_value, fits_tag, fits_tags, fits_group, fits};
 ghost use Rattle.rules.specs.Words.{every};
@@ -104,7 +104,7 @@ fn fits_coded<F: Field + Copy>(code: &Code<F>, symbol: &Cells, stated: &Tags) ->
 
 // Whether the message fits the group's own sizes.
 fn fits_group<F: Field + Copy>(code: &Code<F>, m: &Message) -> bool
-    ensures { (places : ℕ) → result ≡ fits_group (laid (meaning F.arithmetic code.now) places) (meaning-of m.now) }
+    ensures { (places : ℕ) → result ≡ fits_group (laid (meaning F.arithmetic code.now) places) (meaning_of m.now) }
 {
     match m {
         Message::WriteNotice {
@@ -130,7 +130,7 @@ fn fits_group<F: Field + Copy>(code: &Code<F>, m: &Message) -> bool
 
 // Whether the message is within the ranges of messages and fits the group's own sizes.
 pub fn fits<F: Field + Copy>(code: &Code<F>, m: &Message) -> bool
-    ensures decided { (places : ℕ) → result ≡ fits (laid (meaning F.arithmetic code.now) places) (meaning-of m.now) }
+    ensures decided { (places : ℕ) → result ≡ fits (laid (meaning F.arithmetic code.now) places) (meaning_of m.now) }
 {
     m.is_in_range() && fits_group(code, m)
 }

@@ -147,7 +147,7 @@ fn below(set: ServerSet, n: usize) -> ServerSet
 
 // The value of the read's object, from the symbols in hand, if they recover it.
 pub(crate) fn decoded<F: Field + Copy>(code: &Code<F>, asking: &Asking) -> Option<Cells>
-    ensures { MatchOption result (Recovers (meaning F.arithmetic code.now) (asking_of asking.now).hand asking.now.object → ⊥) (λ v. Decoded (meaning F.arithmetic code.now) (asking_of asking.now).hand (asking_of asking.now).symbols asking.now.object (items v)) }
+    ensures { MatchOption result (Recovers (meaning F.arithmetic code.now) (asking_of asking.now).hand asking.now.object → ⊥) (λ v. Recovers (meaning F.arithmetic code.now) (asking_of asking.now).hand asking.now.object × Decoded (meaning F.arithmetic code.now) (asking_of asking.now).hand (asking_of asking.now).symbols asking.now.object (items v)) }
 {
     if asking.object >= code.objects() {
         return None;

@@ -4,7 +4,7 @@ ghost use Rattle.terms.specs.Items.{items};
 ghost use Rattle.terms.specs.Lists.{listed};
 ghost use Rattle.message.specs.Tags.{zero_tag};
 ghost use Rattle.code.specs.Meaning.{meaning};
-ghost use Rattle.message.specs.Meanings.{question, meaning as meaning-of};
+ghost use Rattle.message.specs.Meanings.{question, meaning as meaning_of};
 ghost use Rattle.message.specs.Ranges.{in_range};
 ghost use Rattle.rules.specs.Delivering.{exchanges, stated, restated, reply};
 ghost use Rattle.rules.specs.Encoding.{turned};
@@ -148,7 +148,7 @@ pub(crate) fn reply<F: Field + Copy>(
     requires server_within { me.number < code.now.servers }
     requires in_range { in_range (question read object (items asked.now)) ≡ true }
     ensures outcome { delivered_number result.outcome ≡ (if holds (server p.now).history object (slice_index_or (items asked.now) object zero_tag) then 1 else 2) }
-    ensures reply { (places : ℕ) → option_map meaning-of result.reply ≡ Some (reply (laid (meaning F.arithmetic code.now) places) me.number (server p.now) read object (items asked.now)) }
+    ensures reply { (places : ℕ) → option_map meaning_of result.reply ≡ Some (reply (laid (meaning F.arithmetic code.now) places) me.number (server p.now) read object (items asked.now)) }
     ensures sendable { Sendable result.reply }
 {
     let x = object as usize;

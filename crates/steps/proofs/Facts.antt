@@ -1,5 +1,5 @@
 -- What a history holds is within the ranges of messages. Assumes nothing.
-use Rattle.std.proofs.Common.{◌≡◌, ℕ, ◌≤◌, Bool, true, false, cond, ◌&&◌, eqb, List, [], ◌∷◌, map, length, vec_items, fold, sym, refl, ap, subst, arith}
+use Rattle.std.proofs.Common.{◌≡◌, ℕ, ◌≤◌, Bool, true, ◌&&◌, eqb, List, [], ◌∷◌, map, length, vec_items, fold, sym, refl, subst}
 use Rattle.std.proofs.lemmas.Bool.{cond_both}
 use Rattle.terms.proofs.Listed.{length_listed}
 use Rattle.message.specs.declared.tag.Tag.{Tag}

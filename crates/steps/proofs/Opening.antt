@@ -1,16 +1,16 @@
 -- A read that nothing keeps from being opened. Assumes nothing.
-use Rattle.std.proofs.Common.{◌≡◌, ℕ, ◌+◌, ◌<◌, Bool, true, false, ltb, is_some, Some, None, Option, sym, refl, ap, ◌∙◌, ap₂}
+use Rattle.std.proofs.Common.{◌≡◌, ℕ, ◌+◌, ◌<◌, Bool, true, Some, None, Option, sym, ap, ◌∙◌, ap₂}
 use Rattle.std.proofs.lemmas.Bool.{lt-ltb}
 use Rattle.terms.specs.Limits.{max_read}
 use Rattle.terms.specs.Lists.{listed}
 use Rattle.terms.specs.declared.refusal.Refusal.{Refusal}
-use Rattle.terms.specs.declared.refusal.Refusal.TheVariants.{NumbersUsedUp, ReadsFull, LaneFull}
+use Rattle.terms.specs.declared.refusal.Refusal.TheVariants.{NumbersUsedUp, LaneFull}
 use Rattle.message.specs.Meanings.{Meaning, question}
 use Rattle.rules.specs.State.{Layout, Server}
 use Rattle.rules.specs.Turns.{Answer, check}
 use Rattle.rules.specs.Updates.{opening}
 use Rattle.server_split.specs.Steps.{after, open_refusal}
-use Rattle.steps.specs.Local.{Local, local, refused_or}
+use Rattle.steps.specs.Local.{local, refused_or}
 use Rattle.steps.specs.Opening.{open_why, opened_local, open_local}
 
 why_none : (p : Server) (free : Bool) → p.opened < max_read → free ≡ true → open_why p true free ≡ None

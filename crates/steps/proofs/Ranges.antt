@@ -1,5 +1,5 @@
 -- What servers post is within the ranges of messages. Assumes nothing.
-use Rattle.std.proofs.Common.{◌≡◌, ℕ, zero, suc, ◌<◌, ◌≤◌, Bool, true, ◌&&◌, leb, List, [], ◌∷◌, length, get_or, refl, ap, ◌∙◌, ap₂, arith}
+use Rattle.std.proofs.Common.{◌≡◌, ℕ, suc, ◌<◌, ◌≤◌, Bool, true, ◌&&◌, List, [], ◌∷◌, length, get_or, refl, ap, ◌∙◌, ap₂, arith}
 use Rattle.std.proofs.lemmas.Bool.{le-leb}
 use Rattle.terms.specs.Limits.{max_read, max_height, max_count, max_objects, max_servers, max_cells}
 use Rattle.terms.specs.Lists.{each, listed}

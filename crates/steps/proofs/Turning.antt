@@ -1,5 +1,5 @@
 -- A re-encoded symbol. Assumes nothing.
-use Rattle.std.proofs.Common.{◌≡◌, ℕ, ◌≤◌, List, length, get_or, sym, subst}
+use Rattle.std.proofs.Common.{ℕ, ◌≤◌, List, length, get_or, sym, subst}
 use Rattle.terms.proofs.Listed.{length_listed}
 use Rattle.code.specs.Codings.{Coding, re_encoded, re_encoded_cell}
 

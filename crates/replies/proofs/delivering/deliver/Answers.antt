@@ -1,4 +1,4 @@
-use Rattle.std.proofs.Common.{◌≡◌, ℕ, ◌<◌, ◌≤◌, Bool, true, false, ◌&&◌, ltb, sym, refl, ap, ◌∙◌, ap₂, arith}
+use Rattle.std.proofs.Common.{◌≡◌, true, false, ◌&&◌, ltb, refl, ap₂, arith}
 use Rattle.std.proofs.lemmas.Bool.{lt-ltb, le-ltb, and_left, and_right}
 use Rattle.code.specs.Meaning as code
 use Rattle.message.specs.Meanings.{meaning}
@@ -17,7 +17,7 @@ returns-then-from-servers g c =
       | then-from-servers-via-then-from-servers w ↦ and_left (ltb a k.servers) (ltb b k.servers) (le-ltb a k.servers (omega (arith, c.servers.ensures.counted, w.if-from-servers.true)))
       | then-from-servers-via-else-from-servers+then-me-servers w ↦ and_right (ltb a k.servers) (ltb b k.servers) (le-ltb b k.servers (omega (arith, w.servers-else-from-servers.ensures.counted, w.if-me-servers.true)))
     ] in
-    record { delivered = delivered_nowhere k (server c.args.p.now) a b c.args.back-free _ (meaning c.args.m) out refl; sendable = tt }
+    record { delivered = delivered_nowhere k (server c.args.p.now) a b c.args.back_free _ (meaning c.args.m) out refl; sendable = tt }
 
 pub returns-then-not-fits : goal.returns-then-not-fits
 returns-then-not-fits g c =
@@ -26,7 +26,7 @@ returns-then-not-fits g c =
     let b = c.args.me.number in
     let here : (ltb a k.servers && ltb b k.servers) ≡ true =
     ap₂ (λ x y. x && y) (lt-ltb a k.servers (omega (arith, c.servers.ensures.counted, c.if-from-servers.false))) (lt-ltb b k.servers (omega (arith, c.servers-else-from-servers.ensures.counted, c.if-me-servers.false))) in
-    record { delivered = delivered_unfit k (server c.args.p.now) a b c.args.back-free _ (meaning c.args.m) here c.if-not-fits.ensures.decided refl; sendable = tt }
+    record { delivered = delivered_unfit k (server c.args.p.now) a b c.args.back_free _ (meaning c.args.m) here c.if-not-fits.ensures.decided refl; sendable = tt }
 
 pub returns : goal.returns
 returns g c =
@@ -36,6 +36,6 @@ returns g c =
     let here : (ltb a k.servers && ltb b k.servers) ≡ true =
     ap₂ (λ x y. x && y) (lt-ltb a k.servers (omega (arith, c.servers.ensures.counted, c.if-from-servers.false))) (lt-ltb b k.servers (omega (arith, c.servers-else-from-servers.ensures.counted, c.if-me-servers.false))) in
     record {
-      delivered = delivered_fit k (server c.args.p.now) a b c.args.back-free _ (meaning c.args.m) here c.if-not-fits.ensures.decided c.receive.ensures.taken;
+      delivered = delivered_fit k (server c.args.p.now) a b c.args.back_free _ (meaning c.args.m) here c.if-not-fits.ensures.decided c.receive.ensures.taken;
       sendable = c.receive.ensures.sendable;
     }

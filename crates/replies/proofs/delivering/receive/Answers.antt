@@ -1,7 +1,6 @@
-use Rattle.std.proofs.Common.{◌≡◌, ℕ, ◌<◌, ◌≤◌, Bool, true, false, ◌&&◌, None, sym, refl, ap, ◌∙◌, ap₂, arith}
+use Rattle.std.proofs.Common.{None, ap, ◌∙◌}
 use Rattle.terms.specs.Items.{items}
 use Rattle.code.specs.Meaning as code
-use Rattle.message.specs.Meanings.{meaning}
 use Rattle.rules.specs.Turns.{Outcome}
 use Rattle.server_split.specs.Servers.{server}
 use Rattle.server_split.specs.Steps.{laid}
@@ -11,11 +10,11 @@ use Rattle.replies.proofs.Messages.{fit_range, plain_cells, taken_as}
 use Rattle.replies.proofs.Sending.{tag_notice_object}
 use Rattle.replies.proofs.delivering.receive.Goals as goal
 
-pub note-write-requires : goal.note-write-requires
-note-write-requires g c = fit_range (laid (code.meaning g.F.Field.arithmetic c.args.code.now) 0) c.args.m _ c.in-WriteNotice.is c.requires.fit
+pub note_write-requires : goal.note_write-requires
+note_write-requires g c = fit_range (laid (code.meaning g.F.Field.arithmetic c.args.code.now) 0) c.args.m _ c.in-WriteNotice.is c.requires.fit
 
-pub invariant-of-x : goal.invariant-of-x
-invariant-of-x g c = (tag_notice_object c.in-TagNotice.object c.in-TagNotice.tag (fit_range (laid (code.meaning g.F.Field.arithmetic c.args.code.now) 0) c.args.m _ c.in-TagNotice.is c.requires.fit), tt)
+pub invariant_of-x : goal.invariant_of-x
+invariant_of-x g c = record { within = tag_notice_object c.in-TagNotice.object c.in-TagNotice.tag (fit_range (laid (code.meaning g.F.Field.arithmetic c.args.code.now) 0) c.args.m _ c.in-TagNotice.is c.requires.fit) }
 
 pub answer-requires : goal.answer-requires
 answer-requires g c = record {
@@ -23,19 +22,19 @@ answer-requires g c = record {
   in_range = fit_range (laid (code.meaning g.F.Field.arithmetic c.args.code.now) 0) c.args.m _ c.in-Question.is c.requires.fit;
 }
 
-pub invariant-of-take-plain : goal.invariant-of-take-plain
-invariant-of-take-plain g c =
-    (plain_cells c.in-PlainReply.read (items c.in-PlainReply.value) (fit_range (laid (code.meaning g.F.Field.arithmetic c.args.code.now) 0) c.args.m _ c.in-PlainReply.is c.requires.fit), tt)
+pub invariant_of-take_plain : goal.invariant_of-take_plain
+invariant_of-take_plain g c =
+    record { some_cells = plain_cells c.in-PlainReply.read (items c.in-PlainReply.value) (fit_range (laid (code.meaning g.F.Field.arithmetic c.args.code.now) 0) c.args.m _ c.in-PlainReply.is c.requires.fit) }
 
 pub returns-in-WriteNotice : goal.returns-in-WriteNotice
 returns-in-WriteNotice g c =
     let k = code.meaning g.F.Field.arithmetic c.args.code.now in
     record {
       taken =
-          taken_as k (server c.args.p.now) c.args.from.number c.args.me.number c.args.back-free _ c.args.m _ c.in-WriteNotice.is (record {
+          taken_as k (server c.args.p.now) c.args.from.number c.args.me.number c.args.back_free _ c.args.m _ c.in-WriteNotice.is (record {
             found = found_of None;
             allowed = λ _. tt;
-            step = λ places. c.silent.ensures.said _ ∙ c.note-write.ensures (laid k places) c.args.me.number c.args.back-free (found_of None);
+            step = λ places. c.silent.ensures.said _ ∙ c.note_write.ensures (laid k places) c.args.me.number c.args.back_free (found_of None);
           });
       sendable = c.silent.ensures.sendable;
     }
@@ -45,7 +44,7 @@ returns-in-TagNotice g c =
     let k = code.meaning g.F.Field.arithmetic c.args.code.now in
     record {
       taken =
-          taken_as k (server c.args.p.now) c.args.from.number c.args.me.number c.args.back-free _ c.args.m _ c.in-TagNotice.is (record {
+          taken_as k (server c.args.p.now) c.args.from.number c.args.me.number c.args.back_free _ c.args.m _ c.in-TagNotice.is (record {
             found = found_of None;
             allowed = λ _. tt;
             step = λ places. c.silent-in-TagNotice.ensures.said _ ∙ ap (λ q. local (Outcome 0) q None) c.hear.ensures.after;
@@ -58,7 +57,7 @@ returns-in-Question g c =
     let k = code.meaning g.F.Field.arithmetic c.args.code.now in
     record {
       taken =
-          taken_as k (server c.args.p.now) c.args.from.number c.args.me.number c.args.back-free _ c.args.m _ c.in-Question.is (record {
+          taken_as k (server c.args.p.now) c.args.from.number c.args.me.number c.args.back_free _ c.args.m _ c.in-Question.is (record {
             found = found_of None;
             allowed = λ _. tt;
             step = λ places. c.answer.ensures.step places c.args.from.number (found_of None);
@@ -71,10 +70,10 @@ returns-in-PlainReply g c =
     let k = code.meaning g.F.Field.arithmetic c.args.code.now in
     record {
       taken =
-          taken_as k (server c.args.p.now) c.args.from.number c.args.me.number c.args.back-free _ c.args.m _ c.in-PlainReply.is (record {
+          taken_as k (server c.args.p.now) c.args.from.number c.args.me.number c.args.back_free _ c.args.m _ c.in-PlainReply.is (record {
             found = found_of None;
             allowed = λ _. tt;
-            step = λ places. c.silent-in-PlainReply.ensures.said _ ∙ c.take-plain.ensures (laid k places);
+            step = λ places. c.silent-in-PlainReply.ensures.said _ ∙ c.take_plain.ensures (laid k places);
           });
       sendable = c.silent-in-PlainReply.ensures.sendable;
     }
@@ -84,10 +83,10 @@ returns-in-CodedReply g c =
     let k = code.meaning g.F.Field.arithmetic c.args.code.now in
     record {
       taken =
-          taken_as k (server c.args.p.now) c.args.from.number c.args.me.number c.args.back-free _ c.args.m _ c.in-CodedReply.is (record {
-            found = c.take-coded.ensures.found;
-            allowed = c.take-coded.ensures.allowed;
-            step = λ places. c.silent-in-CodedReply.ensures.said _ ∙ c.take-coded.ensures.step places;
+          taken_as k (server c.args.p.now) c.args.from.number c.args.me.number c.args.back_free _ c.args.m _ c.in-CodedReply.is (record {
+            found = c.take_coded.ensures.found;
+            allowed = c.take_coded.ensures.allowed;
+            step = λ places. c.silent-in-CodedReply.ensures.said _ ∙ c.take_coded.ensures.step places;
           });
       sendable = c.silent-in-CodedReply.ensures.sendable;
     }

@@ -1,11 +1,11 @@
-use Rattle.std.proofs.Common.{◌≡◌, ℕ, ◌≤◌, Bool, true, false, ◌&&◌, ltb, sym, refl, ap, ◌∙◌, subst, arith}
+use Rattle.std.proofs.Common.{◌≡◌, ℕ, Bool, false, ◌&&◌, ltb, sym, ap, ◌∙◌, arith}
 use Rattle.std.proofs.lemmas.List.{get_or_past}
 use Rattle.std.proofs.lemmas.Bool.{le-ltb, and_right}
 use Rattle.terms.specs.Sets.{member}
 use Rattle.terms.specs.declared.servers.ServerSet.{ServerSet}
 use Rattle.replies.proofs.Hands.{gathered_more, gathered_skip, gathered_all}
 use Rattle.replies.proofs.mending.below.Goals as goal
-use Rattle.replies.proofs.mending.below.Goals.{then-is-known, else-is-known}
+use Rattle.replies.proofs.mending.below.Goals.{then-is_known, else-is_known}
 
 pub loop-s-init : goal.loop-s-init
 loop-s-init c j = c.empty-known.ensures.nobody j ∙ sym (ap (λ b. b && (ltb j c.args.n && member c.args.set j)) (le-ltb j 0 (omega arith)))
@@ -15,9 +15,9 @@ loop-s-preserved c j =
     let f : ℕ → Bool = λ k. ltb k c.args.n && member c.args.set k in
     let g = member c.loop-s.known in
     let s = c.loop-s.s in
-    elim c.if-is-known.branch [
-      | then-is-known w ↦ ap (λ (t : ServerSet). member t j) w.known-is ∙ ap (λ (h : ℕ → Bool). h j) w.with-known.ensures ∙ gathered_more f g s c.loop-s.invariant (sym w.if-is-known.ensures) j
-      | else-is-known w ↦ ap (λ (t : ServerSet). member t j) w.known-is ∙ gathered_skip f g s c.loop-s.invariant (sym w.if-is-known.ensures) j
+    elim c.if-is_known.branch [
+      | then-is_known w ↦ ap (λ (t : ServerSet). member t j) w.known-is ∙ ap (λ (h : ℕ → Bool). h j) w.with-known.ensures ∙ gathered_more f g s c.loop-s.invariant (sym w.if-is_known.ensures) j
+      | else-is_known w ↦ ap (λ (t : ServerSet). member t j) w.known-is ∙ gathered_skip f g s c.loop-s.invariant (sym w.if-is_known.ensures) j
     ]
 
 pub returns : goal.returns

@@ -1,4 +1,4 @@
-use Rattle.std.proofs.Common.{◌≡◌, ℕ, Bool, cond, not, ◌&&◌, List, Some, None, Option, sym, refl, ap, ◌∙◌, ap₂}
+use Rattle.std.proofs.Common.{ℕ, Bool, cond, not, ◌&&◌, List, Some, None, Option, ap, ◌∙◌, ap₂}
 use Rattle.terms.specs.Items.{items}
 use Rattle.message.specs.declared.tag.Tag.{Tag}
 use Rattle.message.specs.Tags.{same}
@@ -20,8 +20,8 @@ returns g c places ts e =
     let a = c.args.from.number in
     let y = c.args.y in
     let v = items c.args.symbol in
-    let wanted = c.tag-of-wanted.ensures.found in
-    let both = c.if-not-holds-both.ensures ∙ ap (λ (t : Tag). holds p.history y c.args.stated && holds p.history y t) wanted in
+    let wanted = c.tag_of-wanted.ensures.found in
+    let both = c.if-not-holds_both.ensures ∙ ap (λ (t : Tag). holds p.history y c.args.stated && holds p.history y t) wanted in
     let out : Tag → Option (List ℕ) = λ t. Some (turned l a p y t (r.tags y) v) in
     let by : Tag → Option (List ℕ) = λ t. cond (contains code a y && not (same t (r.tags y))) (cond (holds p.history y t && holds p.history y (r.tags y)) (out t) None) (Some v) in
     ap Some (c.turned.ensures.symbol places ∙ ap (λ (t : Tag). turned l a p y c.args.stated t v) wanted)

@@ -1,17 +1,15 @@
-use Rattle.std.proofs.Common.{◌≡◌, ℕ, ◌+◌, ◌<◌, ◌≤◌, Bool, true, false, cond, List, length, get_or, Some, sym, refl, ap, ◌∙◌, subst, ap₂, arith}
+use Rattle.std.proofs.Common.{◌≡◌, ℕ, ◌≤◌, Bool, true, false, cond, List, length, get_or, Some, sym, ap, ◌∙◌, subst, ap₂}
 use Rattle.terms.specs.Items.{items}
 use Rattle.terms.specs.Lists.{listed}
 use Rattle.message.specs.declared.tag.Tag.{Tag}
 use Rattle.message.specs.Tags.{zero_tag}
-use Rattle.code.specs.Codings.{re_encoded}
 use Rattle.code.specs.Meaning.{meaning}
 use Rattle.rules.specs.Histories as rules
 use Rattle.rules.specs.Histories.{holds, value_under}
-use Rattle.rules.specs.Delivering.{exchanges, stated, restated}
-use Rattle.rules.specs.Encoding.{turned}
+use Rattle.rules.specs.Delivering.{stated, restated}
 use Rattle.server_split.specs.Servers.{server}
 use Rattle.server_split.specs.Steps.{laid}
-use Rattle.message.specs.Meanings.{Meaning, plain_reply, coded_reply}
+use Rattle.message.specs.Meanings.{plain_reply, coded_reply}
 use Rattle.message.specs.Ranges.{in_range}
 use Rattle.steps.proofs.Facts.{value_some}
 use Rattle.steps.proofs.Ranges.{plain_range, coded_range}
@@ -26,10 +24,10 @@ returns-then-holds g c =
     let x = c.args.object in
     let m = c.args.read in
     let ts = items c.args.asked.now in
-    let tag : c.get-or-tag.result ≡ get_or ts x zero_tag = c.get-or-tag.ensures.found ∙ ap (get_or ts x) c.zero.ensures.zero in
+    let tag : c.get_or-tag.result ≡ get_or ts x zero_tag = c.get_or-tag.ensures.found ∙ ap (get_or ts x) c.zero.ensures.zero in
     let held : true ≡ holds p.history x (get_or ts x zero_tag) = c.if-holds.ensures.decided ∙ ap₂ (λ (es : List rules.Entry) (t : Tag). holds es x t) c.history.ensures.told tag in
-    let value : items c.value-under-value.result ≡ value_under code.cells p.history x (get_or ts x zero_tag) =
-    c.value-under-value.ensures.value ∙ ap₂ (λ (es : List rules.Entry) (t : Tag). value_under code.cells es x t) c.history-then-holds.ensures.told tag in
+    let value : items c.value_under-value.result ≡ value_under code.cells p.history x (get_or ts x zero_tag) =
+    c.value_under-value.ensures.value ∙ ap₂ (λ (es : List rules.Entry) (t : Tag). value_under code.cells es x t) c.history-then-holds.ensures.told tag in
     let some = subst (λ (v : List ℕ). 1 ≤ length v) (sym value) (value_some code.cells q.history x (get_or ts x zero_tag) code.least_cells) in
     record {
       outcome = ap (λ (b : Bool). cond {A = ℕ} b 1 2) held;
@@ -37,7 +35,7 @@ returns-then-holds g c =
           let l = laid (meaning g.F.Field.arithmetic code) places in
           let coded = coded_reply m (restated l c.args.me.number p ts code.objects) (listed code.objects (λ y. stated l c.args.me.number p y (get_or ts y zero_tag))) in
           ap (λ (v : List ℕ). Some (plain_reply m v)) value ∙ ap (λ (b : Bool). Some (cond b (plain_reply m (value_under code.cells p.history x (get_or ts x zero_tag))) coded)) held;
-      sendable = plain_range m (items c.value-under-value.result) (question_number m x ts c.requires.in_range) some (cells_few c.value-under-value.result);
+      sendable = plain_range m (items c.value_under-value.result) (question_number m x ts c.requires.in_range) some (cells_few c.value_under-value.result);
     }
 
 pub returns : goal.returns
@@ -49,7 +47,7 @@ returns g c =
     let x = c.args.object in
     let m = c.args.read in
     let ts = items c.args.asked.now in
-    let tag : c.get-or-tag.result ≡ get_or ts x zero_tag = c.get-or-tag.ensures.found ∙ ap (get_or ts x) c.zero.ensures.zero in
+    let tag : c.get_or-tag.result ≡ get_or ts x zero_tag = c.get_or-tag.ensures.found ∙ ap (get_or ts x) c.zero.ensures.zero in
     let held : false ≡ holds p.history x (get_or ts x zero_tag) = c.if-holds.ensures.decided ∙ ap₂ (λ (es : List rules.Entry) (t : Tag). holds es x t) c.history.ensures.told tag in
     let f : ℕ → ℕ → Tag = λ places y. stated (laid (meaning g.F.Field.arithmetic code) places) s p y (get_or ts y zero_tag) in
     record {
@@ -57,10 +55,10 @@ returns g c =
       reply = λ places.
           let l = laid (meaning g.F.Field.arithmetic code) places in
           let coded = coded_reply m (restated l s p ts code.objects) (listed code.objects (f places)) in
-          ap₂ (λ (v : List ℕ) (us : List Tag). Some (coded_reply m v us)) (c.restated-symbol.ensures.symbol places) (c.stated-tags-stated.ensures places)
+          ap₂ (λ (v : List ℕ) (us : List Tag). Some (coded_reply m v us)) (c.restated-symbol.ensures.symbol places) (c.stated_tags-stated.ensures places)
           ∙ ap (λ (b : Bool). Some (cond b (plain_reply m (value_under code.cells p.history x (get_or ts x zero_tag))) coded)) held;
       sendable =
-          ap (λ (us : List Tag). in_range (coded_reply m (items c.restated-symbol.result) us)) (c.stated-tags-stated.ensures 0)
+          ap (λ (us : List Tag). in_range (coded_reply m (items c.restated-symbol.result) us)) (c.stated_tags-stated.ensures 0)
           ∙ coded_range m (items c.restated-symbol.result) code.objects (f 0) zero_tag (question_number m x ts c.requires.in_range) c.restated-symbol.ensures.some (cells_few c.restated-symbol.result) code.least_objects code.most_objects
           (λ i lt. stated_ok m x ts c.requires.in_range (laid (meaning g.F.Field.arithmetic code) 0) s p q.own_in_range i);
     }

@@ -1,12 +1,8 @@
-use Rattle.std.proofs.Common.{◌≡◌, ℕ, ◌+◌, ◌<◌, ◌≤◌, Bool, true, false, cond, List, length, get_or, sym, refl, ap, ◌∙◌, subst, ap₂, arith}
+use Rattle.std.proofs.Common.{◌≡◌, ℕ, ◌≤◌, cond, List, length, get_or, sym, ap, ◌∙◌, subst, ap₂, arith}
 use Rattle.terms.specs.Items.{items}
-use Rattle.terms.specs.Lists.{listed}
 use Rattle.message.specs.declared.tag.Tag.{Tag}
 use Rattle.message.specs.Tags.{zero_tag}
-use Rattle.code.specs.Codings.{re_encoded}
 use Rattle.code.specs.Meaning.{meaning}
-use Rattle.rules.specs.Histories as rules
-use Rattle.rules.specs.Histories.{holds, value_under}
 use Rattle.rules.specs.Delivering.{exchanges, stated, restated}
 use Rattle.rules.specs.Encoding.{turned}
 use Rattle.server_split.specs.Servers.{server}
@@ -27,12 +23,12 @@ loop-y-preserved g c =
     let s = c.args.me.number in
     let ts = items c.args.asked.now in
     let y = c.loop-y.y in
-    let asked : c.get-or.result ≡ get_or ts y zero_tag = c.get-or.ensures.found ∙ ap (get_or ts y) c.zero.ensures.zero in (
+    let asked : c.get_or.result ≡ get_or ts y zero_tag = c.get_or.ensures.found ∙ ap (get_or ts y) c.zero.ensures.zero in (
       λ places.
           let l = laid (meaning g.F.Field.arithmetic c.args.code.now) places in
           let next : Tag → List ℕ → List ℕ = λ u v. cond (exchanges l s p y u) (turned l s p y (p.own y) (stated l s p y u) v) v in
-          c.restated-at-symbol.ensures.symbol places ∙ ap₂ next asked (c.loop-y.invariant.0 places) ∙ sym (restated_more l s p ts y),
-      c.restated-at-symbol.ensures.some,
+          c.restated_at-symbol.ensures.symbol places ∙ ap₂ next asked (c.loop-y.invariant.0 places) ∙ sym (restated_more l s p ts y),
+      c.restated_at-symbol.ensures.some,
     )
 
 pub returns : goal.returns

@@ -1,13 +1,8 @@
-use Rattle.std.proofs.Common.{◌≡◌, ℕ, ◌+◌, ◌<◌, ◌≤◌, Bool, true, false, cond, List, length, get_or, sym, refl, ap, ◌∙◌, subst, ap₂, arith}
+use Rattle.std.proofs.Common.{cond, ap, ◌∙◌, ap₂}
 use Rattle.terms.specs.Items.{items}
-use Rattle.terms.specs.Lists.{listed}
 use Rattle.message.specs.declared.tag.Tag.{Tag}
-use Rattle.message.specs.Tags.{zero_tag}
-use Rattle.code.specs.Codings.{re_encoded}
 use Rattle.code.specs.Meaning.{meaning}
-use Rattle.rules.specs.Histories as rules
-use Rattle.rules.specs.Histories.{holds, value_under}
-use Rattle.rules.specs.Delivering.{exchanges, stated, restated}
+use Rattle.rules.specs.Delivering.{stated}
 use Rattle.rules.specs.Encoding.{turned}
 use Rattle.server_split.specs.Servers.{server}
 use Rattle.server_split.specs.Steps.{laid}
@@ -35,7 +30,7 @@ returns g c =
     record {
       symbol = λ places.
           let l = laid (meaning g.F.Field.arithmetic c.args.code.now) places in
-          c.turned.ensures.symbol places ∙ ap₂ (λ (t u : Tag). turned l s p y t u v) c.own-tag-own.ensures.told (c.stated-to.ensures places)
+          c.turned.ensures.symbol places ∙ ap₂ (λ (t u : Tag). turned l s p y t u v) c.own_tag-own.ensures.told (c.stated-to.ensures places)
           ∙ ap (λ b. cond b (turned l s p y (p.own y) (stated l s p y c.args.asked) v) v) (c.if-not-exchanges.ensures places);
       some = c.turned.ensures.some;
     }

@@ -1,16 +1,9 @@
-use Rattle.std.proofs.Common.{◌≡◌, ℕ, ◌+◌, ◌<◌, ◌≤◌, Bool, true, false, cond, List, length, get_or, sym, refl, ap, ◌∙◌, subst, ap₂, arith}
-use Rattle.terms.specs.Items.{items}
-use Rattle.terms.specs.Lists.{listed}
-use Rattle.message.specs.declared.tag.Tag.{Tag}
+use Rattle.std.proofs.Common.{cond, List, ap, ◌∙◌, ap₂}
 use Rattle.message.specs.Tags.{zero_tag}
-use Rattle.code.specs.Codings.{re_encoded}
-use Rattle.code.specs.Meaning.{meaning}
 use Rattle.rules.specs.Histories as rules
 use Rattle.rules.specs.Histories.{holds, value_under}
-use Rattle.rules.specs.Delivering.{exchanges, stated, restated}
-use Rattle.rules.specs.Encoding.{turned}
+use Rattle.rules.specs.Delivering.{stated}
 use Rattle.server_split.specs.Servers.{server}
-use Rattle.server_split.specs.Steps.{laid}
 use Rattle.replies.proofs.replying.stated.Goals as goal
 
 pub returns-then-not-exchanges : goal.returns-then-not-exchanges
@@ -18,7 +11,7 @@ unfolding stated
 returns-then-not-exchanges g c places =
     let p = server c.args.p.now in
     let y = c.args.y in
-    c.own-tag.ensures.told ∙ ap (λ b. cond b (cond (holds p.history y c.args.asked) c.args.asked zero_tag) (p.own y)) (c.if-not-exchanges.ensures places)
+    c.own_tag.ensures.told ∙ ap (λ b. cond b (cond (holds p.history y c.args.asked) c.args.asked zero_tag) (p.own y)) (c.if-not-exchanges.ensures places)
 
 pub returns-then-holds : goal.returns-then-holds
 unfolding stated

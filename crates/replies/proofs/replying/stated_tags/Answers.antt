@@ -1,14 +1,10 @@
-use Rattle.std.proofs.Common.{◌≡◌, ℕ, ◌+◌, ◌<◌, ◌≤◌, Bool, true, false, cond, List, length, get_or, sym, refl, ap, ◌∙◌, subst, ap₂, arith}
+use Rattle.std.proofs.Common.{◌≡◌, ℕ, ◌<◌, length, get_or, ap, ◌∙◌, arith}
 use Rattle.terms.specs.Items.{items}
 use Rattle.terms.specs.Lists.{listed}
 use Rattle.message.specs.declared.tag.Tag.{Tag}
 use Rattle.message.specs.Tags.{zero_tag}
-use Rattle.code.specs.Codings.{re_encoded}
 use Rattle.code.specs.Meaning.{meaning}
-use Rattle.rules.specs.Histories as rules
-use Rattle.rules.specs.Histories.{holds, value_under}
-use Rattle.rules.specs.Delivering.{exchanges, stated, restated}
-use Rattle.rules.specs.Encoding.{turned}
+use Rattle.rules.specs.Delivering.{stated}
 use Rattle.server_split.specs.Servers.{server}
 use Rattle.server_split.specs.Steps.{laid}
 use Rattle.terms.proofs.Listed.{length_listed, listed_push}
@@ -26,7 +22,7 @@ loop-y-preserved g c places =
     let code = c.args.code.now in
     let l = laid (meaning g.F.Field.arithmetic code) places in
     let f : ℕ → Tag = λ y. stated l s p y (get_or ts y zero_tag) in
-    let asked : c.get-or.result ≡ get_or ts y zero_tag = c.get-or.ensures.found ∙ ap (get_or ts y) c.zero-in-loop-y.ensures.zero in
+    let asked : c.get_or.result ≡ get_or ts y zero_tag = c.get_or.ensures.found ∙ ap (get_or ts y) c.zero-in-loop-y.ensures.zero in
     let so_far = items c.loop-y.tags in
     let room : length so_far < 6 = omega (arith, ap length (c.loop-y.invariant places), length_listed y f, c.objects-y-end.ensures.counted, code.most_objects) in
     c.push.ensures.added room ∙ listed_push so_far y f c.stated.result (c.loop-y.invariant places) (c.stated.ensures places ∙ ap (stated l s p y) asked)

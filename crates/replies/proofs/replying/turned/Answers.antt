@@ -1,16 +1,11 @@
-use Rattle.std.proofs.Common.{◌≡◌, ℕ, ◌+◌, ◌<◌, ◌≤◌, Bool, true, false, cond, List, length, get_or, sym, refl, ap, ◌∙◌, subst, ap₂, arith}
+use Rattle.std.proofs.Common.{◌≡◌, ℕ, ◌≤◌, List, length, sym, ap, ◌∙◌, subst, ap₂}
 use Rattle.terms.specs.Items.{items}
-use Rattle.terms.specs.Lists.{listed}
 use Rattle.message.specs.declared.tag.Tag.{Tag}
-use Rattle.message.specs.Tags.{zero_tag}
 use Rattle.code.specs.Codings.{re_encoded}
 use Rattle.code.specs.Meaning.{meaning}
 use Rattle.rules.specs.Histories as rules
 use Rattle.rules.specs.Histories.{holds, value_under}
-use Rattle.rules.specs.Delivering.{exchanges, stated, restated}
-use Rattle.rules.specs.Encoding.{turned}
 use Rattle.server_split.specs.Servers.{server}
-use Rattle.server_split.specs.Steps.{laid}
 use Rattle.steps.proofs.Turning.{re_encoded_some}
 use Rattle.replies.proofs.replying.turned.Goals as goal
 
@@ -23,7 +18,7 @@ returns-in-Ok g c =
     let y = c.args.y in
     let cells = code.cells in
     let under = λ (t : Tag) (es : List rules.Entry). value_under cells es y t in
-    let old : items c.value-under-old.result ≡ value_under cells p.history y c.args.from = c.value-under-old.ensures.value ∙ ap (under c.args.from) c.history.ensures.told in
-    let new : items c.value-under-new.result ≡ value_under cells p.history y c.args.to = c.value-under-new.ensures.value ∙ ap (under c.args.to) c.history-2.ensures.told in
+    let old : items c.value_under-old.result ≡ value_under cells p.history y c.args.from = c.value_under-old.ensures.value ∙ ap (under c.args.from) c.history.ensures.told in
+    let new : items c.value_under-new.result ≡ value_under cells p.history y c.args.to = c.value_under-new.ensures.value ∙ ap (under c.args.to) c.history-2.ensures.told in
     let is = c.in-Ok.ensures.re_encoded_or_refused.1 ∙ ap₂ (re_encoded k s y (items c.args.symbol)) old new in
     record { symbol = λ places. is; some = subst (λ (v : List ℕ). 1 ≤ length v) (sym is) (re_encoded_some k s y (items c.args.symbol) _ _ code.least_cells) }

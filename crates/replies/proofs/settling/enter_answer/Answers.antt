@@ -1,10 +1,7 @@
-use Rattle.std.proofs.Common.{◌≡◌, ℕ, Bool, true, false, cond, Option, sym, refl, ap, ◌∙◌, subst, ap₂}
+use Rattle.std.proofs.Common.{ap, ◌∙◌}
 use Rattle.terms.specs.Items.{items}
-use Rattle.reads.specs.Readings.{asking, read}
-use Rattle.rules.specs.Delivering.{open_place}
-use Rattle.rules.specs.State.{Read}
 use Rattle.server_split.specs.Servers.{server}
-use Rattle.replies.proofs.Answering.{entered_freed, settled_inside, plain_not_open, plain_at}
+use Rattle.replies.proofs.Answering.{entered_freed}
 use Rattle.message.specs.declared.tag.Tag.{Tag}
 use Rattle.rules.specs.Histories.{Entry}
 use Rattle.rules.specs.Updates.{entered, reading}
@@ -18,5 +15,5 @@ returns c l =
     let i = c.args.i.number in
     let x = c.args.asking.object in
     let entry : Tag → Entry = λ t. record { object = x; tag = t; value = items c.args.value.cells } in
-    c.put-read.ensures.after ∙ entered_freed p (server c.enter.new.self) (entry c.tag-of-tag.result) i c.requires c.enter.ensures.after
-    ∙ ap (λ (t : Tag). reading (entered p (entry t)) (upd p.reads i Free)) c.tag-of-tag.ensures.found
+    c.put_read.ensures.after ∙ entered_freed p (server c.enter.new.self) (entry c.tag_of-tag.result) i c.requires c.enter.ensures.after
+    ∙ ap (λ (t : Tag). reading (entered p (entry t)) (upd p.reads i Free)) c.tag_of-tag.ensures.found

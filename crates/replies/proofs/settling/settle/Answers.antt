@@ -1,11 +1,8 @@
-use Rattle.std.proofs.Common.{◌≡◌, ℕ, Bool, true, false, cond, ltb, List, length, Option, sym, refl, ap, ◌∙◌, subst, ap₂, arith}
+use Rattle.std.proofs.Common.{◌≡◌, false, ltb, List, length, sym, ap, ◌∙◌, arith}
 use Rattle.terms.specs.Items.{items}
-use Rattle.reads.specs.Readings.{asking, read}
-use Rattle.rules.specs.Delivering.{open_place}
-use Rattle.rules.specs.State.{Read}
+use Rattle.reads.specs.Readings.{asking}
 use Rattle.server_split.specs.Servers.{server}
-use Rattle.replies.proofs.Answering.{entered_freed, settled_inside, plain_not_open, plain_at}
-use Rattle.server_split.specs.Steps.{has_room}
+use Rattle.replies.proofs.Answering.{settled_inside}
 use Rattle.std.proofs.lemmas.Bool.{le-ltb}
 use Rattle.terms.specs.Limits.{max_client_reads}
 use Rattle.rules.specs.Histories as rules
@@ -17,5 +14,5 @@ returns c l =
     let p = server c.args.p.now in
     let i = c.args.i.number in
     let inside : ltb i max_client_reads ≡ false = le-ltb i max_client_reads (omega arith) in
-    settled_inside l p (server c.enter-answer.new.p) i (asking c.args.asking) (items c.args.value.cells) inside
-    (sym (c.if-not-has-room.ensures.decided ∙ ap (λ (es : List rules.Entry). ltb (length es) max_entries) c.history.ensures.told)) (c.enter-answer.ensures l)
+    settled_inside l p (server c.enter_answer.new.p) i (asking c.args.asking) (items c.args.value.cells) inside
+    (sym (c.if-not-has_room.ensures.decided ∙ ap (λ (es : List rules.Entry). ltb (length es) max_entries) c.history.ensures.told)) (c.enter_answer.ensures l)

@@ -1,4 +1,4 @@
-use Rattle.std.proofs.Common.{◌≡◌, ℕ, ◌<◌, length, refl, ap, ◌∙◌, arith}
+use Rattle.std.proofs.Common.{◌≡◌, ℕ, ◌<◌, length, ap, ◌∙◌, arith}
 use Rattle.terms.specs.Items.{items}
 use Rattle.terms.specs.Lists.{listed}
 use Rattle.terms.proofs.Listed.{length_listed, listed_push}
@@ -13,7 +13,7 @@ loop-x-preserved c =
     let f = (server c.args.p.now).own in
     let so_far = items c.loop-x.tags in
     let room : length so_far < 6 = omega (arith, ap length c.loop-x.invariant, length_listed c.loop-x.x f, c.requires) in
-    c.push.ensures.added room ∙ listed_push so_far c.loop-x.x f c.own-tag.result c.loop-x.invariant c.own-tag.ensures.told
+    c.push.ensures.added room ∙ listed_push so_far c.loop-x.x f c.own_tag.result c.loop-x.invariant c.own_tag.ensures.told
 
 pub returns : goal.returns
 returns c =

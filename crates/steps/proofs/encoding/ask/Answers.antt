@@ -1,4 +1,4 @@
-use Rattle.std.proofs.Common.{◌≡◌, ℕ, Some, None, Option, refl, ap, ◌∙◌}
+use Rattle.std.proofs.Common.{Some, None, ap}
 use Rattle.std.specs.Option.{option_map}
 use Rattle.terms.specs.Items.{items}
 use Rattle.code.specs.Meaning.{meaning}
@@ -16,8 +16,8 @@ returns-in-Some g c =
     record {
       step = λ places.
           ask_is (laid code places) (server c.args.p.now) c.args.me.number c.args.x.number (alone c.args.alone) (Some (items c.in-Some.value.cells)) c.args.lanes_free _
-          c.if-is-asking.ensures (ap alone c.in-Some.is) (c.enter-own.ensures.step places c.args.me.number c.args.lanes_free code);
-      sendable = c.enter-own.ensures.sendable;
+          c.if-is_asking.ensures (ap alone c.in-Some.is) (c.enter_own.ensures.step places c.args.me.number c.args.lanes_free code);
+      sendable = c.enter_own.ensures.sendable;
     }
 
 pub returns-in-Ok : goal.returns-in-Ok
@@ -27,7 +27,7 @@ returns-in-Ok g c =
     record {
       step = λ places.
           ask_is (laid code places) (server c.args.p.now) c.args.me.number c.args.x.number (alone c.args.alone) None c.args.lanes_free _
-          c.if-is-asking.ensures (ap alone c.in-default.is) (c.in-Ok.ensures.step places (λ _. Outcome 4));
+          c.if-is_asking.ensures (ap alone c.in_default.is) (c.in-Ok.ensures.step places (λ _. Outcome 4));
       sendable = c.in-Ok.ensures.sendable;
     }
 
@@ -38,6 +38,6 @@ returns-in-Err g c =
     record {
       step = λ places.
           ask_is (laid code places) (server c.args.p.now) c.args.me.number c.args.x.number (alone c.args.alone) None c.args.lanes_free _
-          c.if-is-asking.ensures (ap alone c.in-default.is) (c.in-Err.ensures.step places (λ _. Outcome 4));
+          c.if-is_asking.ensures (ap alone c.in_default.is) (c.in-Err.ensures.step places (λ _. Outcome 4));
       sendable = tt;
     }

@@ -1,4 +1,4 @@
-use Rattle.std.proofs.Common.{◌≡◌, ℕ, Bool, cond, Option, sym, refl, ap, ◌∙◌, ap₂}
+use Rattle.std.proofs.Common.{Bool, cond, Option, sym, ap, ◌∙◌, ap₂}
 use Rattle.std.specs.Option.{option_map}
 use Rattle.terms.specs.Items.{items}
 use Rattle.terms.specs.declared.refusal.Refusal.{Refusal}
@@ -9,7 +9,7 @@ use Rattle.server_split.specs.Servers.{server}
 use Rattle.server_split.specs.Steps.{laid}
 use Rattle.server_split.specs.declared.values.Value.{Value}
 use Rattle.steps.specs.Encoding.{contained_local, other_local}
-use Rattle.steps.specs.Local.{Local, refused_or}
+use Rattle.steps.specs.Local.{refused_or}
 use Rattle.steps.proofs.encoding.encode.Goals as goal
 
 pub returns-in-Err : goal.returns-in-Err
@@ -40,9 +40,9 @@ returns-then-contained g c =
     record {
       step = λ places.
           let l = laid code places in
-          c.encode-contained.ensures.step places
+          c.encode_contained.ensures.step places
           ∙ sym (ap₂ (λ (o : Option Refusal) (b : Bool). refused_or o p (cond b (contained_local l p s x alone free) (other_local l p s x free))) c.in-Ok.ensures.found_or_refused.0 (sym c.in-Ok.ensures.found_or_refused.1 ∙ c.if-contained.true));
-      sendable = c.encode-contained.ensures.sendable;
+      sendable = c.encode_contained.ensures.sendable;
     }
 
 pub returns-else-contained : goal.returns-else-contained
@@ -57,7 +57,7 @@ returns-else-contained g c =
     record {
       step = λ places.
           let l = laid code places in
-          c.encode-other.ensures.step places
+          c.encode_other.ensures.step places
           ∙ sym (ap₂ (λ (o : Option Refusal) (b : Bool). refused_or o p (cond b (contained_local l p s x alone free) (other_local l p s x free))) c.in-Ok.ensures.found_or_refused.0 (sym c.in-Ok.ensures.found_or_refused.1 ∙ c.if-contained.false));
-      sendable = c.encode-other.ensures.sendable;
+      sendable = c.encode_other.ensures.sendable;
     }

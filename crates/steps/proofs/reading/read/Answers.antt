@@ -1,6 +1,6 @@
-use Rattle.std.proofs.Common.{◌≡◌, ℕ, Option, sym, refl, ap, ◌∙◌}
+use Rattle.std.proofs.Common.{ℕ, Option, ap, ◌∙◌}
 use Rattle.code.specs.Meaning.{meaning}
-use Rattle.rules.specs.Turns.{Answer, Numbered}
+use Rattle.rules.specs.Turns.{Numbered}
 use Rattle.server_split.specs.Servers.{server}
 use Rattle.server_split.specs.Steps.{laid}
 use Rattle.steps.specs.Opening.{open_local}
@@ -21,8 +21,8 @@ returns-in-Ok g c =
     record {
       step = λ places.
           c.in-Ok.ensures.step places Numbered
-          ∙ ap (λ (i : Option ℕ). open_local (l places) p c.args.me.number c.args.x.number i c.args.lanes_free Numbered) c.free-place-place.ensures.place
-          ∙ ap (read_by (l places) p c.args.me.number c.args.x.number c.args.lanes_free) (c.in-default.ensures places);
+          ∙ ap (λ (i : Option ℕ). open_local (l places) p c.args.me.number c.args.x.number i c.args.lanes_free Numbered) c.free_place-place.ensures.place
+          ∙ ap (read_by (l places) p c.args.me.number c.args.x.number c.args.lanes_free) (c.in_default.ensures places);
       sendable = c.in-Ok.ensures.sendable;
     }
 
@@ -33,7 +33,7 @@ returns-in-Err g c =
     record {
       step = λ places.
           c.in-Err.ensures.step places Numbered
-          ∙ ap (λ (i : Option ℕ). open_local (l places) p c.args.me.number c.args.x.number i c.args.lanes_free Numbered) c.free-place-place.ensures.place
-          ∙ ap (read_by (l places) p c.args.me.number c.args.x.number c.args.lanes_free) (c.in-default.ensures places);
+          ∙ ap (λ (i : Option ℕ). open_local (l places) p c.args.me.number c.args.x.number i c.args.lanes_free Numbered) c.free_place-place.ensures.place
+          ∙ ap (read_by (l places) p c.args.me.number c.args.x.number c.args.lanes_free) (c.in_default.ensures places);
       sendable = tt;
     }

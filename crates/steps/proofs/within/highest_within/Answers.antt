@@ -1,4 +1,4 @@
-use Rattle.std.proofs.Common.{◌≡◌, ℕ, Bool, true, false, cond, map, fold, sym, ap, ◌∙◌, take_all}
+use Rattle.std.proofs.Common.{◌≡◌, Bool, true, false, cond, fold, ap, ◌∙◌, take_all}
 use Rattle.message.specs.Tags.{zero_tag}
 use Rattle.message.specs.declared.tag.Tag.{Tag}
 use Rattle.code.specs.Meaning.{meaning}
@@ -21,7 +21,7 @@ loop-e-preserved g c places =
     let test : Tag → Bool = within (laid (meaning g.F.Field.arithmetic c.args.code.now) places) (server c.args.p.now) x in
     let step : Tag → Entry → Tag = λ t e. raised test x t (entry e) in
     let item = c.e-item.result in
-    let more = fold_step step zero_tag c.as-slice-e-items.result.now c.loop-e.e-index item c.loop-e.best c.if-rises.best c.loop-e-test.true (c.loop-e.invariant places) in
+    let more = fold_step step zero_tag c.as_slice-e-items.result.now c.loop-e.e-index item c.loop-e.best c.if-rises.best c.loop-e-test.true (c.loop-e.invariant places) in
     let at : (r : Bool) → r ≡ rises test x c.loop-e.best (entry item) → cond r item.tag c.loop-e.best ≡ step c.loop-e.best item =
     λ r e. ap (λ (b : Bool). cond b item.tag c.loop-e.best) e ∙ raised_within test x c.loop-e.best (entry item) in
     elim c.if-rises.branch [
@@ -35,5 +35,5 @@ returns g c places =
     let x = c.args.object in
     let step : Tag → rules.Entry → Tag = raised (within (laid (meaning g.F.Field.arithmetic c.args.code.now) places) (server c.args.p.now) x) x in
     c.loop-e.invariant places ∙ ap (fold (λ t (e : Entry). step t (entry e)) zero_tag) (take_all _ _ c.loop-e-test.false)
-    ∙ folded_map entry step zero_tag c.as-slice-e-items.result.now
-    ∙ ap (fold step zero_tag) (c.as-slice-e-items.ensures.shown ∙ c.history.ensures.told)
+    ∙ folded_map entry step zero_tag c.as_slice-e-items.result.now
+    ∙ ap (fold step zero_tag) (c.as_slice-e-items.ensures.shown ∙ c.history.ensures.told)

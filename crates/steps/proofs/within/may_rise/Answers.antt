@@ -13,7 +13,7 @@ loop-j-init g c = sym (every_none (λ (j : ℕ). not (contains (meaning g.F.Fiel
 pub loop-j-preserved : goal.loop-j-preserved
 loop-j-preserved g c =
     let test : ℕ → Bool = λ j. not (contains (meaning g.F.Field.arithmetic c.args.code.now) j c.args.object) || not (lower ((server c.args.p.now).told c.args.object j) c.args.tag) in
-    ap₂ (λ a b. a && b) c.loop-j.invariant c.lets-rise-all.ensures ∙ sym (every_more c.loop-j.j test)
+    ap₂ (λ a b. a && b) c.loop-j.invariant c.lets_rise-all.ensures ∙ sym (every_more c.loop-j.j test)
 
 pub returns : goal.returns
 returns g c places =

@@ -1,4 +1,4 @@
-use Rattle.std.proofs.Common.{◌≡◌, ◌≤◌, not, ◌||◌}
+use Rattle.std.proofs.Common.{◌≡◌, not, ◌||◌}
 use Rattle.message.specs.Tags.{lower}
 use Rattle.code.specs.Codings.{contains}
 use Rattle.code.specs.Meaning.{meaning}
