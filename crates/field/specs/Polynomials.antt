@@ -93,8 +93,8 @@ partial_xor_right (suc n) a b c =
     (ap (partial n (double a)) (xor_shr b c 1) ∙ partial_xor_right n (double a) (b / 2) (c / 2))
     ∙ xor_swap (b % 2 * a) (c % 2 * a) (partial n (double a) (b / 2)) (partial n (double a) (c / 2))
 
-bit-xor : (u a b : ℕ) → u < 2 → u * bit_xor a b ≡ bit_xor (u * a) (u * b)
-bit-xor u a b h =
+bit_times_xor : (u a b : ℕ) → u < 2 → u * bit_xor a b ≡ bit_xor (u * a) (u * b)
+bit_times_xor u a b h =
     bit_ind (λ u. u * bit_xor a b ≡ bit_xor (u * a) (u * b))
     (zero-mul (bit_xor a b) ∙ sym (ap₂ bit_xor (zero-mul a) (zero-mul b)))
     (one-mul (bit_xor a b) ∙ sym (ap₂ bit_xor (one-mul a) (one-mul b))) u h
@@ -103,7 +103,7 @@ partial_xor_left : (n a b c : ℕ) → partial n (bit_xor a b) c ≡ bit_xor (pa
 unfolding partial
 partial_xor_left zero a b c = refl
 partial_xor_left (suc n) a b c =
-    ap₂ bit_xor (bit-xor (c % 2) a b (low c))
+    ap₂ bit_xor (bit_times_xor (c % 2) a b (low c))
     (ap (λ (v : ℕ). partial n v (c / 2)) (double_xor a b) ∙ partial_xor_left n (double a) (double b) (c / 2))
     ∙ xor_swap (c % 2 * a) (c % 2 * b) (partial n (double a) (c / 2)) (partial n (double b) (c / 2))
 

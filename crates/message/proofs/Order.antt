@@ -20,14 +20,14 @@ abbrev tag_of : ℕ → ℕ → Tag
 tag_of h k = record { height = h; server = k }
 
 -- the same tag is the same height and the same server
-pub same-≡ : (s t : Tag) → same s t ≡ true → s ≡ t
-same-≡ s t e =
+pub equal_of_same : (s t : Tag) → same s t ≡ true → s ≡ t
+equal_of_same s t e =
     let h : s.height ≡ t.height = grind (arith, nat_tests) in
     let k : s.server ≡ t.server = grind (arith, nat_tests) in
     ap (λ n. tag_of n s.server) h ∙ ap (tag_of t.height) k
 
-pub ≡-same : (s t : Tag) → s ≡ t → same s t ≡ true
-≡-same s t e =
+pub same_of_equal : (s t : Tag) → s ≡ t → same s t ≡ true
+same_of_equal s t e =
     let h : s.height ≡ t.height = ap (λ (u : Tag). u.height) e in
     let k : s.server ≡ t.server = ap (λ (u : Tag). u.server) e in
     grind (arith, nat_tests)

@@ -7,7 +7,7 @@ use Rattle.std.proofs.lemmas.Bool.{cases_Bool, cond-true, cond-false, cond_both,
 use Rattle.terms.specs.Limits.{max_entries}
 use Rattle.message.specs.declared.tag.Tag.{Tag}
 use Rattle.message.specs.Tags.{zero_tag, lower, same}
-use Rattle.message.proofs.Order.{same-≡}
+use Rattle.message.proofs.Order.{equal_of_same}
 use Rattle.rules.specs.Words.{every}
 use Rattle.rules.specs.Histories.{Entry, is_entry, has_entry, entered_value, value_under, zero_record, later, raised, highest, highest_held}
 use Rattle.rules.specs.State.{Layout, Server}
@@ -157,7 +157,7 @@ module _ (l : Layout) (some_server : 0 < l.code.servers) (p : Server) (x : ℕ) 
     where
       by : (n : ℕ) → 0 < n → every n (λ j. same (p.told x j) (p.own x)) ≡ true → lowest n (p.told x) ≡ p.own x
       by zero lt q = absurd (omega arith)
-      by (suc n) lt q = lowest_same n (p.told x) (p.own x) (λ j jn. same-≡ (p.told x j) (p.own x) (every_at (suc n) (λ j. same (p.told x j) (p.own x)) q j jn))
+      by (suc n) lt q = lowest_same n (p.told x) (p.own x) (λ j jn. equal_of_same (p.told x j) (p.own x) (every_at (suc n) (λ j. same (p.told x j) (p.own x)) q j jn))
 
   -- what goes first is of x, and below the own tag where all told tags equal it
   first_low : all_told ≡ true → (e : Entry) → stays l p x e ≡ false → (lower e.tag (p.own x) ≡ true) × (eqb e.object x ≡ true)

@@ -29,7 +29,7 @@ use Rattle.rules.proofs.Ranked.{Code, layout_of, Entry, Waiting, Read, Server, S
 use Rattle.rules.proofs.RankedSteps as Steps
 use Rattle.rules.proofs.RankedSteps.{Refused, Tag, Value, Number, Turn, turn}
 use Rattle.rules.proofs.Calls.{checked}
-use Rattle.rules.proofs.View.{entry_at, waiting_at, asking_at, given_at, read_at, server_at, lanes_at, state_at, refusal_of, refusal_at, turn_at, cond_at, upd_at, get_d_at, take_at, drop_at, listed_at, lower_at, same_at, above_at, tag_made, value_at, top_at, Shape, shape_free, shape_open, shape_answered, shape, spread_at, lanes_free_at, first_at}
+use Rattle.rules.proofs.View.{entry_at, waiting_at, asking_at, given_at, read_at, server_at, lanes_at, state_at, refusal_of, refusal_at, turn_at, cond_at, upd_at, get_or_at, take_at, drop_at, listed_at, lower_at, same_at, above_at, tag_made, value_at, top_at, Shape, shape_free, shape_open, shape_answered, shape, spread_at, lanes_free_at, first_at}
 
 -- ---- turns
 
@@ -236,7 +236,7 @@ module _ (g : Code) where
   ready_same p w = refl
 
   write_at_same : (ws : List Waiting) (i : ℕ) → writing.write_at (map waiting_at ws) i ≡ waiting_at (Steps.write_at ws i)
-  write_at_same ws i = get_d_at waiting_at ws i Steps.no_write
+  write_at_same ws i = get_or_at waiting_at ws i Steps.no_write
 
   better_same : (ws : List Waiting) (o : Option ℕ) (i : ℕ) → writing.better (map waiting_at ws) o i ≡ Steps.better g ws o i
   better_same ws None i = refl

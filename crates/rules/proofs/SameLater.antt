@@ -29,7 +29,7 @@ use Rattle.rules.proofs.RankedSteps as Steps
 use Rattle.rules.proofs.RankedSteps.{Tag, Value, Still, Outcome, Count, Turn, turn}
 use Rattle.rules.proofs.Words.{seek_found}
 use Rattle.rules.proofs.Calls.{checked}
-use Rattle.rules.proofs.View.{entry_at, waiting_at, asking_at, read_at, server_at, state_at, refusal_of, refusal_at, turn_at, upd_at, get_d_at, listed_at, kept_by_at, every_same, some_same, lower_at, same_at, above_at, tag_made, lowest_at, holds_at, value_at, highest_at, top_at, Shape, shape_free, shape_open, shape_answered, shape, posted_at, spread_at, taken_at, first_at}
+use Rattle.rules.proofs.View.{entry_at, waiting_at, asking_at, read_at, server_at, state_at, refusal_of, refusal_at, turn_at, upd_at, get_or_at, listed_at, kept_by_at, every_same, some_same, lower_at, same_at, above_at, tag_made, lowest_at, holds_at, value_at, highest_at, top_at, Shape, shape_free, shape_open, shape_answered, shape, posted_at, spread_at, taken_at, first_at}
 use Rattle.rules.proofs.Same.{unless_at, cond_same, cond_above, entered_same, queued_same, sifted_same, reading_same, hearing_same, moved_same, is_open_same, has_number_same, is_open_as_same, asks_same, put_same, chain_at, history_room_same, room_same, open_done_same}
 
 -- a place found in the view is that found in the ranked state
@@ -212,20 +212,20 @@ module _ (g : Code) where
   restated_same s p T (suc y) =
       let u = get_or T y 0 in
       ap₂ (λ (z : declared.Tag) (v : List ℕ). cond (delivering.exchanges (layout_of g) s (server_at p) y z) (encoding.turned (layout_of g) s (server_at p) y (tag_at (p.own y)) (delivering.stated (layout_of g) s (server_at p) y z) v) v)
-      (get_d_at tag_at T y 0) (restated_same s p T y)
+      (get_or_at tag_at T y 0) (restated_same s p T y)
       ∙ ap₂ (λ (b : Bool) (w : declared.Tag). cond b (encoding.turned (layout_of g) s (server_at p) y (tag_at (p.own y)) w (Steps.mixed g s p T y)) (Steps.mixed g s p T y)) (exchanges_same s p y u) (stated_same s p y u)
       ∙ ap (λ v. cond (Steps.exchanges g s p y u) v (Steps.mixed g s p T y)) (turned_same s p y (p.own y) (Steps.states g s p y u) (Steps.mixed g s p T y))
 
   stated_list : (s : ℕ) (p : Server) (T : List ℕ) → listed g.k (λ y. delivering.stated (layout_of g) s (server_at p) y (get_or (map tag_at T) y zero_tag)) ≡ map tag_at (listed g.k (λ y. Steps.states g s p y (get_or T y 0)))
-  stated_list s p T = ap (listed g.k) (fun_ext (λ y. ap (delivering.stated (layout_of g) s (server_at p) y) (get_d_at tag_at T y 0) ∙ stated_same s p y (get_or T y 0)))
+  stated_list s p T = ap (listed g.k) (fun_ext (λ y. ap (delivering.stated (layout_of g) s (server_at p) y) (get_or_at tag_at T y 0) ∙ stated_same s p y (get_or T y 0)))
       ∙ listed_at tag_at g.k (λ y. Steps.states g s p y (get_or T y 0))
 
   asked_held : (p : Server) (x : ℕ) (T : List ℕ) → history.holds (map entry_at p.history) x (get_or (map tag_at T) x zero_tag) ≡ holds p.history x (get_or T x 0)
-  asked_held p x T = ap (history.holds (map entry_at p.history) x) (get_d_at tag_at T x 0) ∙ holds_at p.history x (get_or T x 0)
+  asked_held p x T = ap (history.holds (map entry_at p.history) x) (get_or_at tag_at T x 0) ∙ holds_at p.history x (get_or T x 0)
 
   reply_same : (s : ℕ) (p : Server) (m x : ℕ) (T : List ℕ) → delivering.reply (layout_of g) s (server_at p) m x (map tag_at T) ≡ message_at (Steps.reply g s p m x T)
   reply_same s p m x T = cond_same message_at _ (holds p.history x (get_or T x 0)) _ _ (Plain m (kept g p.history x (get_or T x 0))) (Coded m (Steps.mixed g s p T g.k) (listed g.k (λ y. Steps.states g s p y (get_or T y 0)))) (asked_held p x T)
-      (ap (plain_reply m) (ap (history.value_under g.w (map entry_at p.history) x) (get_d_at tag_at T x 0) ∙ value_at g p.history x (get_or T x 0)))
+      (ap (plain_reply m) (ap (history.value_under g.w (map entry_at p.history) x) (get_or_at tag_at T x 0) ∙ value_at g p.history x (get_or T x 0)))
       (ap₂ (coded_reply m) (restated_same s p T g.k) (stated_list s p T))
 
   question_done_same : (S : State) (a b : ℕ) (m : Message) (z : Meaning) → z ≡ message_at m → delivering.question_done (layout_of g) (state_at S) a b z ≡ state_at (Steps.question_done g S a b m)
@@ -259,7 +259,7 @@ module _ (g : Code) where
       ≡ cond (mends_at p a r st y) (Some (cond (has g a y && not (eqb (get_or st y 0) (r.tags y))) (swap g a y (kept g p.history y (get_or st y 0)) (kept g p.history y (r.tags y)) v) v)) None
   mended_at_same p a r st y v =
       let t = get_or st y 0 in
-      ap (λ (u : declared.Tag). cond (has g a y && not (same u (tag_at (r.tags y)))) (cond (history.holds (map entry_at p.history) y u && history.holds (map entry_at p.history) y (tag_at (r.tags y))) (Some (encoding.turned (layout_of g) a (server_at p) y u (tag_at (r.tags y)) v)) None) (Some v)) (get_d_at tag_at st y 0)
+      ap (λ (u : declared.Tag). cond (has g a y && not (same u (tag_at (r.tags y)))) (cond (history.holds (map entry_at p.history) y u && history.holds (map entry_at p.history) y (tag_at (r.tags y))) (Some (encoding.turned (layout_of g) a (server_at p) y u (tag_at (r.tags y)) v)) None) (Some v)) (get_or_at tag_at st y 0)
       ∙ ap₂ (λ (e : Bool) (w : List ℕ). cond (has g a y && not e) (cond (history.holds (map entry_at p.history) y (tag_at t) && history.holds (map entry_at p.history) y (tag_at (r.tags y))) (Some w) None) (Some v)) (same_at t (r.tags y)) (turned_same a p y t (r.tags y) v)
       ∙ ap₂ (λ (c d : Bool). cond (has g a y && not (eqb t (r.tags y))) (cond (c && d) (Some (swap g a y (kept g p.history y t) (kept g p.history y (r.tags y)) v)) None) (Some v)) (holds_at p.history y t) (holds_at p.history y (r.tags y))
       ∙ mended_ways (has g a y) (eqb t (r.tags y)) (holds p.history y t && holds p.history y (r.tags y)) (swap g a y (kept g p.history y t) (kept g p.history y (r.tags y)) v) v

@@ -98,10 +98,10 @@ pub upd_at : {A B : Type 0} (f : A → B) (h : ℕ → A) (i : ℕ) (v : A) → 
 unfolding upd
 upd_at f h i v = fun_ext (λ k. cond_at f (eqb k i) v (h k))
 
-pub get_d_at : {A B : Type 0} (f : A → B) (xs : List A) (i : ℕ) (d : A) → get_or (map f xs) i (f d) ≡ f (get_or xs i d)
-get_d_at f [] i d = refl
-get_d_at f (x ∷ xs) zero d = refl
-get_d_at f (x ∷ xs) (suc i) d = get_d_at f xs i d
+pub get_or_at : {A B : Type 0} (f : A → B) (xs : List A) (i : ℕ) (d : A) → get_or (map f xs) i (f d) ≡ f (get_or xs i d)
+get_or_at f [] i d = refl
+get_or_at f (x ∷ xs) zero d = refl
+get_or_at f (x ∷ xs) (suc i) d = get_or_at f xs i d
 
 pub take_at : {A B : Type 0} (f : A → B) (n : ℕ) (xs : List A) → take n (map f xs) ≡ map f (take n xs)
 take_at f zero xs = refl

@@ -5,7 +5,7 @@ ghost use Rattle.terms.specs.Items.{items};
 ghost use Rattle.terms.specs.Lists.{listed};
 ghost use Rattle.message.specs.Meanings.{meaning};
 ghost use Rattle.message.specs.Ranges.{in_range};
-ghost use Rattle.code.specs.Meaning as code_of_lem;
+ghost use Rattle.code.specs.Meaning as code_of;
 ghost use Rattle.server_split.specs.Servers.{server};
 ghost use Rattle.server_split.specs.Steps.{laid};
 ghost use Rattle.rules.specs.Turns.{Answer};
@@ -43,7 +43,7 @@ pub fn open<F: Field + Copy>(
     place: Option<ReadPlace>,
     lanes_free: bool,
 ) -> Result<Asked, Refusal>
-    ensures step { (places : ℕ) (told : ℕ → Answer) → asked_said told result (server p.new) ≡ open_local (laid (code_of_lem.meaning F.arithmetic code.now) places) (server p.old) me.number x.number (option_map (λ i. i.number) place) lanes_free told }
+    ensures step { (places : ℕ) (told : ℕ → Answer) → asked_said told result (server p.new) ≡ open_local (laid (code_of.meaning F.arithmetic code.now) places) (server p.old) me.number x.number (option_map (λ i. i.number) place) lanes_free told }
     ensures sendable { IfOk result (λ o. in_range (meaning o.question) ≡ true) }
 {
     if p.opened() >= MAX_READ {
