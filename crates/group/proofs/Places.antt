@@ -12,7 +12,7 @@ use Rattle.rules.specs.Writing.{put}
 use Rattle.server.specs.declared.server.Server.{Server}
 use Rattle.server.specs.Servers.{server}
 use Rattle.server.proofs.Lists.{map_at}
-use Rattle.server.proofs.Words.{getD_upd, upd_same, upd_other}
+use Rattle.server.proofs.Words.{get_or_upd, upd_same, upd_other}
 use Rattle.group.specs.States.{AllNew}
 
 pub upd_self : {A : Type 0} (f : ℕ → A) (i : ℕ) → upd f i (f i) ≡ f
@@ -34,7 +34,7 @@ module _ (cells : ℕ) (items : List Server) (i : ℕ) (lt : i < length items) w
       let within : i < length (map server items) = simp length-map lt in
       let see : List rules.Server → ℕ → rules.Server = λ xs k. get_or xs k (new_server cells) in
       let whole : (ℕ → rules.Server) → State = λ f. record { servers = f; lanes = M } in
-      ap whole (ap see (map-set server items i s) ∙ getD_upd (map server items) i (server s) (new_server cells) within)
+      ap whole (ap see (map-set server items i s) ∙ get_or_upd (map server items) i (server s) (new_server cells) within)
 
 -- the server put back as it was
 pub put_self : (S : State) (i : ℕ) → put S i (S.servers i) S.lanes ≡ S

@@ -58,8 +58,8 @@ unfolding upd
 upd_other f i k v ne = ap (λ b. cond b v (f k)) (ne_eqb k i ne)
 
 -- a list written at i, as a function of the place
-pub getD_upd : {A : Type 0} (xs : List A) (i : ℕ) (v d : A) → i < length xs → (λ (k : ℕ). get_or (set xs i v) k d) ≡ upd (λ (k : ℕ). get_or xs k d) i v
-getD_upd xs i v d lt =
+pub get_or_upd : {A : Type 0} (xs : List A) (i : ℕ) (v d : A) → i < length xs → (λ (k : ℕ). get_or (set xs i v) k d) ≡ upd (λ (k : ℕ). get_or xs k d) i v
+get_or_upd xs i v d lt =
     fun_ext (λ k. elim (cases_eq k i) [
       | inl same ↦ rw (same, get_or-set_same xs i v d lt, upd_same (λ (k : ℕ). get_or xs k d) i v)
       | inr ne ↦ get_or-set_other xs i k v d ne ∙ sym (upd_other (λ (k : ℕ). get_or xs k d) i k v ne)
@@ -104,7 +104,7 @@ rows_upd {A} rows x j t d ltx ltj =
     let see : List A → ℕ → A = λ r k. get_or r k d in
     let all : (ℕ → List A) → ℕ → ℕ → A = λ f y. see (f y) in
     let old : ℕ → List A = λ y. get_or rows y [] in
-    ap all (getD_upd rows x (set (get_or rows x []) j t) [] ltx) ∙ upd_seen see old x (set (get_or rows x []) j t) ∙ ap (upd (λ (y : ℕ). see (old y)) x) (getD_upd (get_or rows x []) j t d ltj)
+    ap all (get_or_upd rows x (set (get_or rows x []) j t) [] ltx) ∙ upd_seen see old x (set (get_or rows x []) j t) ∙ ap (upd (λ (y : ℕ). see (old y)) x) (get_or_upd (get_or rows x []) j t d ltj)
 
 pub same_everywhere : {A : Type 0} (n : ℕ) (d : A) (k : ℕ) → get_or (replicate n d) k d ≡ d
 same_everywhere zero d k = refl

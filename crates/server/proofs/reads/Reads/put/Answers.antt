@@ -2,7 +2,7 @@ use Rattle.std.proofs.Common.{ℕ, ◌<◌, List, map, length, get_or, vec_items
 use Rattle.std.proofs.lemmas.List.{length-map, map-set}
 use Rattle.rules.specs.State as rules
 use Rattle.server.specs.Readings.{read}
-use Rattle.server.proofs.Words.{getD_upd}
+use Rattle.server.proofs.Words.{get_or_upd}
 use Rattle.server.proofs.reads.Reads.put.Goals as goal
 
 pub returns : goal.returns
@@ -11,4 +11,4 @@ returns c =
     let i = c.args.i.number in
     let lt : i < length (map read rs) = omega (arith, length-map rs read, c.args.i.within, c.args.self.now.whole) in
     let see : List rules.Read → ℕ → rules.Read = λ xs k. get_or xs k rules.Free in
-    record { after = ap see (map-set read rs i c.args.r) ∙ getD_upd (map read rs) i (read c.args.r) rules.Free lt }
+    record { after = ap see (map-set read rs i c.args.r) ∙ get_or_upd (map read rs) i (read c.args.r) rules.Free lt }

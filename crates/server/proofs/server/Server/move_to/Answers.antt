@@ -2,7 +2,7 @@ use Rattle.std.proofs.Common.{arith}
 use Rattle.message.specs.Tags.{zero_tag}
 use Rattle.terms.specs.Items.{items}
 use Rattle.server.specs.Servers.{server}
-use Rattle.server.proofs.Words.{getD_upd}
+use Rattle.server.proofs.Words.{get_or_upd}
 use Rattle.server.proofs.Parts.{moved_is}
 use Rattle.server.proofs.server.Server.move_to.Goals as goal
 
@@ -13,5 +13,5 @@ returns c =
     record {
       after =
           moved_is (server c.args.self.now) (server q) c.args.me.number x c.args.tag (items c.args.symbol) _ c.hear.ensures.after
-          (getD_upd q.own x c.args.tag zero_tag (omega (arith, c.args.object.within, q.own_each)));
+          (get_or_upd q.own x c.args.tag zero_tag (omega (arith, c.args.object.within, q.own_each)));
     }

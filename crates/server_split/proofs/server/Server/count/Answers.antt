@@ -1,7 +1,7 @@
 use Rattle.std.proofs.Common.{ℕ, ◌≤◌, arith, length-set}
 use Rattle.terms.specs.Limits.{max_count}
 use Rattle.server_split.specs.Servers.{server}
-use Rattle.reads.proofs.Words.{getD_upd, each_set}
+use Rattle.reads.proofs.Words.{get_or_upd, each_set}
 use Rattle.server_split.proofs.Parts.{counted_is}
 use Rattle.server_split.proofs.server.Server.count.Goals as goal
 
@@ -11,7 +11,7 @@ returns c =
     record {
       after =
           counted_is (server p) c.args.j.number c.args.count c.args.height _ c.max-self.result
-          (getD_upd p.clock c.args.j.number c.args.count 0 (omega (arith, c.args.j.within, p.count_each))) c.max-self.ensures;
+          (get_or_upd p.clock c.args.j.number c.args.count 0 (omega (arith, c.args.j.within, p.count_each))) c.max-self.ensures;
     }
 
 pub invariant_of-self : goal.invariant_of-self

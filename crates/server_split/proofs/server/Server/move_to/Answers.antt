@@ -4,7 +4,7 @@ use Rattle.message.specs.Ranges.{tag_ok}
 use Rattle.message.specs.Tags.{zero_tag}
 use Rattle.terms.specs.Items.{items}
 use Rattle.server_split.specs.Servers.{server}
-use Rattle.reads.proofs.Words.{getD_upd, each_set}
+use Rattle.reads.proofs.Words.{get_or_upd, each_set}
 use Rattle.server_split.proofs.Parts.{moved_is}
 use Rattle.server_split.proofs.server.Server.move_to.Goals as goal
 
@@ -16,7 +16,7 @@ returns c =
     record {
       after =
           moved_is (server c.args.self.now) (server q) c.args.me.number x t (items c.args.to.symbol) _ c.hear.ensures.after
-          (getD_upd q.own x t zero_tag (omega (arith, c.args.object.within, q.own_each)));
+          (get_or_upd q.own x t zero_tag (omega (arith, c.args.object.within, q.own_each)));
     }
 
 pub invariant_of-self : goal.invariant_of-self
