@@ -1,21 +1,18 @@
 -- A delivery, by what its server does. Assumes nothing.
-use Rattle.std.proofs.Common.{◌≡◌, ℕ, Bool, true, false, cond, ltb, List, [], ◌∷◌, length, get_or, Some, None, Option, sym, refl, ap, ◌∙◌, ap₂}
-use mathlib.Core.Path.{fun_ext}
+use Rattle.std.proofs.Common.{◌≡◌, ℕ, Bool, true, false, cond, ltb, List, ◌∷◌, length, Some, None, Option, sym, refl, ap, ◌∙◌}
 use Rattle.terms.specs.Limits.{max_client_reads}
 use Rattle.terms.specs.declared.refusal.Refusal.{Refusal}
-use Rattle.terms.specs.declared.refusal.Refusal.TheVariants.{HistoryFull, LaneFull, WaitingFull}
+use Rattle.terms.specs.declared.refusal.Refusal.TheVariants.{HistoryFull}
 use Rattle.message.specs.declared.tag.Tag.{Tag}
 use Rattle.message.specs.Meanings.{Meaning, write_notice, tag_notice, question, plain_reply, coded_reply}
-use Rattle.rules.specs.Delivering.{open_place, waiting_write, fits, reply, client_answer, internal_answer, mended, take_done, question_done, settle, by_symbol, plain_to, plain_at, coded_to, coded_at, got, oldest}
+use Rattle.rules.specs.Delivering.{open_place, fits, reply, client_answer, internal_answer, mended, take_done, question_done, settle, by_symbol, plain_to, plain_at, coded_to, coded_at, got, oldest}
 use Rattle.rules.specs.Events.{is_refused}
 use Rattle.rules.specs.Lanes.{Lanes, taken, posted}
-use Rattle.rules.specs.State as rules
 use Rattle.rules.specs.State.{Layout, State, Server, Asking, Read, Free, Open, Answered}
-use Rattle.rules.specs.Turns.{Answer, Found, Turn, turn, check, unless, Refused, Outcome}
-use Rattle.rules.specs.Updates.{queued, hearing, reading, in_hand}
+use Rattle.rules.specs.Turns.{Found, Turn, turn, check, unless, Refused, Outcome}
+use Rattle.rules.specs.Updates.{queued, reading, in_hand}
 use Rattle.rules.specs.Words.{upd}
 use Rattle.rules.specs.Writing.{put, history_room}
-use Rattle.server_split.specs.Steps.{has_room}
 use Rattle.steps.specs.Local.{Local, local, refused_or}
 use Rattle.replies.specs.Receiving.{settle_local, plain_by, plain_from, coded_symbol, coded_by, coded_from, got_local, deliver_local}
 use Rattle.group_split.proofs.Places.{put_self, upd_self}

@@ -1,5 +1,5 @@
 -- A write that a server makes, and the notice of it. Assumes nothing.
-use Rattle.std.proofs.Common.{◌≡◌, ℕ, ◌+◌, ◌<◌, ◌≤◌, Bool, true, false, ◌&&◌, ltb, List, length, take, Some, None, Option, sym, refl, ap, ◌∙◌, ap₂, arith, length-take}
+use Rattle.std.proofs.Common.{◌≡◌, ℕ, ◌+◌, ◌<◌, ◌≤◌, Bool, true, false, ◌&&◌, ltb, List, length, Some, None, Option, sym, refl, ap, ◌∙◌, ap₂, arith, length-take}
 use Rattle.std.proofs.lemmas.Bool.{ltb-true}
 use Rattle.terms.specs.Items.{items}
 use Rattle.terms.specs.Limits.{max_count, max_height}
@@ -8,7 +8,7 @@ use Rattle.terms.specs.declared.bounded.Bounded.{Bounded}
 use Rattle.terms.specs.declared.refusal.Refusal.{Refusal}
 use Rattle.terms.specs.declared.refusal.Refusal.TheVariants.{NumbersUsedUp, HistoryFull, LaneFull}
 use Rattle.message.specs.declared.tag.Tag.{Tag}
-use Rattle.message.specs.Meanings.{Meaning, write_notice}
+use Rattle.message.specs.Meanings.{write_notice}
 use Rattle.carrier.specs.Lanes.{or_else}
 use Rattle.rules.specs.State.{Layout, Server}
 use Rattle.rules.specs.Turns.{Tagged, check}

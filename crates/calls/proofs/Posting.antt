@@ -1,5 +1,5 @@
 -- Posting to one server after the other. Assumes nothing.
-use Rattle.std.proofs.Common.{◌≡◌, ℕ, zero, suc, ◌+◌, ◌<◌, ◌≤◌, Bool, true, false, cond, not, ◌&&◌, ◌||◌, eqb, ltb, ◌⊎◌, List, [], ◌∷◌, ◌++◌, length, Some, None, sym, refl, ap, ◌∙◌, ap₂, inl, inr, not-suc-le-zero, arith}
+use Rattle.std.proofs.Common.{◌≡◌, ℕ, zero, suc, ◌+◌, ◌<◌, Bool, true, false, cond, not, ◌&&◌, ◌||◌, eqb, ltb, List, [], ◌∷◌, ◌++◌, length, Some, None, sym, refl, ap, ◌∙◌, ap₂, inl, inr, not-suc-le-zero, arith}
 use mathlib.Core.Path.{fun_ext}
 use Rattle.std.proofs.lemmas.Bool.{cases_eq, cases_order, eq-eqb, ne_eqb, lt-ltb, le-ltb}
 use Rattle.terms.specs.declared.refusal.Refusal.TheVariants.{NoSuchServer, EqualEnds, LaneFull, OutOfRange}
@@ -8,7 +8,7 @@ use Rattle.message.specs.Meanings.{Meaning}
 use Rattle.message.specs.Ranges.{in_range}
 use Rattle.carrier.specs.Lanes as carrier
 use Rattle.carrier.specs.Lanes.{with_lane}
-use Rattle.rules.specs.Lanes.{Lanes, spread, free}
+use Rattle.rules.specs.Lanes.{Lanes, spread}
 use Rattle.rules.specs.Words.{every}
 use Rattle.calls.specs.Posting.{posted_other}
 

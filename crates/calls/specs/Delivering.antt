@@ -1,5 +1,5 @@
 -- What a delivery makes of the lanes, and when it is refused before it comes to its server. Assumes nothing.
-use Rattle.std.specs.Prelude.{◌≡◌, ℕ, Bool, true, false, Some, None, Ok, Err, Option, Result}
+use Rattle.std.specs.Prelude.{ℕ, Some, None, Ok, Err, Option, Result}
 use Rattle.terms.specs.declared.refusal.Refusal.{Refusal}
 use Rattle.message.specs.Meanings.{Meaning}
 use Rattle.rules.specs.Lanes.{Lanes, posted, taken}

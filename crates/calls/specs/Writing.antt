@@ -3,7 +3,7 @@ use Rattle.std.specs.Prelude.{ℕ, ◌+◌, Bool, List, Some, None, Ok, Err, Res
 use Rattle.terms.specs.Lists.{listed}
 use Rattle.terms.specs.declared.refusal.Refusal.{Refusal}
 use Rattle.terms.specs.declared.refusal.Refusal.TheVariants.{LaneFull}
-use Rattle.message.specs.Meanings.{Meaning, meaning, write_notice}
+use Rattle.message.specs.Meanings.{meaning, write_notice}
 use Rattle.carrier.specs.Lanes.{or_else}
 use Rattle.rules.specs.State.{Layout, Server}
 use Rattle.rules.specs.Turns.{Refused, Tagged, check}

@@ -2,7 +2,6 @@
 #![tactic(auto)]
 
 pub mod apply;
-pub mod deliver;
 mod own_write;
 mod post;
 mod reach;

@@ -1,4 +1,4 @@
-use Rattle.std.proofs.Common.{◌≡◌, ℕ, ◌+◌, ◌<◌, List, ap, ◌∙◌, ap₂, arith}
+use Rattle.std.proofs.Common.{ℕ, ◌+◌, ◌<◌, List, ap, ◌∙◌, ap₂, arith}
 use Rattle.terms.specs.Items.{items}
 use Rattle.terms.specs.Limits.{max_height}
 use Rattle.message.specs.declared.tag.Tag.{Tag}
@@ -18,17 +18,17 @@ returns g c =
     let s = c.args.aim.server.number in
     let x = c.args.aim.object.number in
     let v = items c.args.value.cells in
-    let tag = c.in-ok-tag.tag in
+    let tag = c.in_ok-tag.tag in
     let new = c.write.new.self in
-    let may = c.in-ok-tag.ensures.answer.0 in
-    let tag_is = c.in-ok-tag.ensures.answer.1 in
+    let may = c.in_ok-tag.ensures.answer.0 in
+    let tag_is = c.in_ok-tag.ensures.answer.1 in
     let top : p.top < max_height = height_left p s may in
     record {
       step = λ places.
-          written_is (laid (meaning g.F.Field.arithmetic code) places) p (server new) s x v tag (items c.clock-of.result) c.args.lanes_free c.if-not-lanes-free.false may tag_is c.write.ensures.after
-          c.clock-of.ensures.counts;
+          written_is (laid (meaning g.F.Field.arithmetic code) places) p (server new) s x v tag (items c.clock_of.result) c.args.lanes_free c.if-not-lanes_free.false may tag_is c.write.ensures.after
+          c.clock_of.ensures.counts;
       sendable =
-          ap₂ (λ (h : ℕ) (clock : List ℕ). in_range (write_notice x v h clock)) (ap (λ (t : Tag). t.height) tag_is) c.clock-of.ensures.counts
+          ap₂ (λ (h : ℕ) (clock : List ℕ). in_range (write_notice x v h clock)) (ap (λ (t : Tag). t.height) tag_is) c.clock_of.ensures.counts
           ∙ notice_range x v (p.top + 1) code.servers (server new).clock c.args.aim.object.within c.args.value.some_cells (few c.args.value.cells) (omega arith) (omega (arith, top)) code.least_servers
           code.most_servers new.counts_in_range;
     }

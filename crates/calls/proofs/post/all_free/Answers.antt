@@ -12,7 +12,7 @@ pub loop-to-preserved : goal.loop-to-preserved
 loop-to-preserved g c =
     let m = c.args.carrier.now in
     let test : ℕ → Bool = λ j. eqb j c.args.from || ltb (length (g.C.Carrier.lanes m c.args.from j)) (g.C.Carrier.p m) in
-    ap₂ (λ a b. a && b) c.loop-to.invariant c.has-place-all.ensures ∙ sym (every_more c.loop-to.to test)
+    ap₂ (λ a b. a && b) c.loop-to.invariant c.has_place-all.ensures ∙ sym (every_more c.loop-to.to test)
 
 pub returns : goal.returns
 returns g c =

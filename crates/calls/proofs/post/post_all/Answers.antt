@@ -1,4 +1,4 @@
-use Rattle.std.proofs.Common.{◌≡◌, ℕ, ◌<◌, Bool, true, ◌||◌, eqb, ltb, List, length, sym, refl, ap, ◌∙◌, ap₂, arith}
+use Rattle.std.proofs.Common.{◌≡◌, ℕ, ◌||◌, eqb, ltb, List, length, refl, ap, ◌∙◌, ap₂, arith}
 use Rattle.message.specs.Meanings.{Meaning, meaning}
 use Rattle.rules.specs.Lanes.{Lanes, spread}
 use Rattle.calls.proofs.Posting.{every_at, spread_none, spread_more, spread_next}
@@ -7,8 +7,8 @@ use Rattle.calls.proofs.post.post_all.Goals as goal
 pub loop-to-init : goal.loop-to-init
 loop-to-init g c = (spread_none (g.C.Carrier.lanes c.args.carrier.now) c.args.from (meaning c.args.m), refl, refl)
 
-pub post-one-requires : goal.post-one-requires
-post-one-requires g c =
+pub post_one-requires : goal.post_one-requires
+post_one-requires g c =
     let L = g.C.Carrier.lanes c.args.carrier.now in
     let from = c.args.from in
     let to = c.loop-to.to in
@@ -25,9 +25,9 @@ post-one-requires g c =
 pub loop-to-preserved : goal.loop-to-preserved
 loop-to-preserved g c =
     let L = g.C.Carrier.lanes c.args.carrier.now in (
-      c.post-one.ensures.lanes_after ∙ spread_more L c.args.from c.loop-to.to (meaning c.args.m) (g.C.Carrier.lanes c.loop-to.carrier) c.loop-to.invariant.0,
-      c.post-one.ensures.same_servers ∙ c.loop-to.invariant.1,
-      c.post-one.ensures.same_places ∙ c.loop-to.invariant.2,
+      c.post_one.ensures.lanes_after ∙ spread_more L c.args.from c.loop-to.to (meaning c.args.m) (g.C.Carrier.lanes c.loop-to.carrier) c.loop-to.invariant.0,
+      c.post_one.ensures.same_servers ∙ c.loop-to.invariant.1,
+      c.post_one.ensures.same_places ∙ c.loop-to.invariant.2,
     )
 
 pub returns : goal.returns

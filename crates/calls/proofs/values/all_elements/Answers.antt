@@ -9,7 +9,7 @@ loop-c-init g c = sym (every_none (λ (k : ℕ). ltb (get_or c.args.cells.now k 
 pub loop-c-preserved : goal.loop-c-preserved
 loop-c-preserved g c =
     let test : ℕ → Bool = λ k. ltb (get_or c.args.cells.now k 0) g.F.Field.arithmetic.size in
-    ap₂ (λ a b. a && b) c.loop-c.invariant c.is-element-all.ensures ∙ sym (every_more c.loop-c.c test)
+    ap₂ (λ a b. a && b) c.loop-c.invariant c.is_element-all.ensures ∙ sym (every_more c.loop-c.c test)
 
 pub returns : goal.returns
 returns g c =

@@ -1,7 +1,6 @@
-use Rattle.std.proofs.Common.{◌≡◌, ℕ, ◌<◌, Bool, leb, List, length, Some, None, vec_items, sym, refl, ap, ◌∙◌, subst, arith}
+use Rattle.std.proofs.Common.{◌≡◌, ℕ, ◌<◌, leb, length, Some, None, vec_items, sym, refl, ap, ◌∙◌, subst, arith}
 use Rattle.message.specs.Meanings.{Meaning, meaning}
 use Rattle.rules.specs.Lanes.{Lanes, free}
-use Rattle.rules.specs.State.{Server}
 use Rattle.rules.specs.Turns.{Refused, Tagged}
 use Rattle.rules.specs.Writing.{put, room}
 use Rattle.server_split.specs.Servers.{server}
@@ -16,46 +15,46 @@ use Rattle.calls.proofs.Taking.{nothing, broke, took_refused, took_joined}
 use Rattle.calls.proofs.Writing.{write_why, write_joined, no_aim, by_value, write_news}
 use Rattle.calls.proofs.write.write.Goals as goal
 
-pub returns-in-err-aim : goal.returns-in-err-aim
-returns-in-err-aim g c =
+pub returns-in_err-aim : goal.returns-in_err-aim
+returns-in_err-aim g c =
     let q = c.args.group.now in
     let m = c.args.carrier.now in
     let l = layout g.F.Field.arithmetic q (g.C.Carrier.p m) in
     let s = c.args.server in
     let x = c.args.object in
     let v = c.args.value.now in
-    let e = c.in-err-aim.field-0.0 in
+    let e = c.in_err-aim.field-0.0 in
     record {
       step = took_refused nothing (λ _. tt) (write_why l s x v) _ e _ (write_joined l (state q (g.C.Carrier.lanes m)) s x v nothing)
-          (no_aim l (state q (g.C.Carrier.lanes m)) s x v (leb q.code.servers (g.C.Carrier.n m)) e c.in-err-aim.ensures.answer) (ap write_told (broke c.from-residual.result e c.from-residual.ensures.1));
+          (no_aim l (state q (g.C.Carrier.lanes m)) s x v (leb q.code.servers (g.C.Carrier.n m)) e c.in_err-aim.ensures.answer) (ap write_told (broke c.from_residual.result e c.from_residual.ensures.1));
       same_code = refl;
       same_servers = refl;
       same_places = refl;
     }
 
-pub returns-in-err-value : goal.returns-in-err-value
-returns-in-err-value g c =
+pub returns-in_err-value : goal.returns-in_err-value
+returns-in_err-value g c =
     let q = c.args.group.now in
     let m = c.args.carrier.now in
     let l = layout g.F.Field.arithmetic q (g.C.Carrier.p m) in
     let s = c.args.server in
     let x = c.args.object in
     let v = c.args.value.now in
-    let e = c.in-err-value.field-0.0 in
+    let e = c.in_err-value.field-0.0 in
     record {
       step = took_refused nothing (λ _. tt) (write_why l s x v) _ e _ (write_joined l (state q (g.C.Carrier.lanes m)) s x v nothing)
-          (by_value l (state q (g.C.Carrier.lanes m)) s x v (leb q.code.servers (g.C.Carrier.n m)) c.in-ok-aim.ensures.answer.0 ∙ c.in-err-value.ensures (g.C.Carrier.p m))
-          (ap write_told (broke c.from-residual-in-err-value.result e c.from-residual-in-err-value.ensures.1));
+          (by_value l (state q (g.C.Carrier.lanes m)) s x v (leb q.code.servers (g.C.Carrier.n m)) c.in_ok-aim.ensures.answer.0 ∙ c.in_err-value.ensures (g.C.Carrier.p m))
+          (ap write_told (broke c.from_residual-in_err-value.result e c.from_residual-in_err-value.ensures.1));
       same_code = refl;
       same_servers = refl;
       same_places = refl;
     }
 
-pub index-mut-requires : goal.index-mut-requires
-index-mut-requires g c = omega (arith, c.in-ok-aim.ensures.within, c.args.group.now.server_each)
+pub index_mut-requires : goal.index_mut-requires
+index_mut-requires g c = omega (arith, c.in_ok-aim.ensures.within, c.args.group.now.server_each)
 
-pub returns-in-err-written : goal.returns-in-err-written
-returns-in-err-written g c =
+pub returns-in_err-written : goal.returns-in_err-written
+returns-in_err-written g c =
     let q = c.args.group.now in
     let m = c.args.carrier.now in
     let l = layout g.F.Field.arithmetic q (g.C.Carrier.p m) in
@@ -67,25 +66,25 @@ returns-in-err-written g c =
     let places = g.C.Carrier.p m in
     let items = vec_items q.servers in
     let cells = q.code.cells in
-    let lt : s < length items = omega (arith, c.in-ok-aim.ensures.within, q.server_each, q.servers.ok.0) in
-    let new = c.own-write.new.p in
-    let aimed = c.in-ok-aim.ensures.answer in
-    let valued = c.in-ok-value.ensures places in
-    let e = c.in-err-written.field-0.0 in
-    let room_is : c.all-free-lanes-free.result ≡ room l S s = c.all-free-lanes-free.ensures ∙ ap (free places L s) c.servers-servers.ensures.counted in
+    let lt : s < length items = omega (arith, c.in_ok-aim.ensures.within, q.server_each, q.servers.ok.0) in
+    let new = c.own_write.new.p in
+    let aimed = c.in_ok-aim.ensures.answer in
+    let valued = c.in_ok-value.ensures places in
+    let e = c.in_err-written.field-0.0 in
+    let room_is : c.all_free-lanes_free.result ≡ room l S s = c.all_free-lanes_free.ensures ∙ ap (free places L s) c.servers-servers.ensures.counted in
     record {
       step = took_joined nothing (λ _. tt) (write_why l s x v) s q.code.servers (local (Refused e) (server new) None) _ _ _ (write_joined l S s x v nothing)
           (by_value l S s x v (leb q.code.servers (g.C.Carrier.n m)) aimed.0 ∙ valued.0)
-          (c.in-err-written.ensures.step places
-          ∙ same_five (write_local l) (at_server cells items s lt c.index-mut.result.now c.index-mut.ensures.value) aimed.1.0 aimed.1.1 valued.1 room_is)
-          (ap write_told (broke c.from-residual-in-err-written.result e c.from-residual-in-err-written.ensures.1)) (put_is cells items s lt new L L);
+          (c.in_err-written.ensures.step places
+          ∙ same_five (write_local l) (at_server cells items s lt c.index_mut.result.now c.index_mut.ensures.value) aimed.1.0 aimed.1.1 valued.1 room_is)
+          (ap write_told (broke c.from_residual-in_err-written.result e c.from_residual-in_err-written.ensures.1)) (put_is cells items s lt new L L);
       same_code = refl;
       same_servers = refl;
       same_places = refl;
     }
 
-pub tell-all-requires : goal.tell-all-requires
-tell-all-requires g c =
+pub tell_all-requires : goal.tell_all-requires
+tell_all-requires g c =
     let q = c.args.group.now in
     let m = c.args.carrier.now in
     let l = layout g.F.Field.arithmetic q (g.C.Carrier.p m) in
@@ -93,14 +92,14 @@ tell-all-requires g c =
     let L = g.C.Carrier.lanes m in
     let places = g.C.Carrier.p m in
     let n_is = c.servers-servers.ensures.counted in
-    let is_free = c.all-free-lanes-free.ensures in
-    let wrote = c.in-ok-written.ensures in
-    let lanes = c.all-free-lanes-free.result in
+    let is_free = c.all_free-lanes_free.ensures in
+    let wrote = c.in_ok-written.ensures in
+    let lanes = c.all_free-lanes_free.result in
     record {
-      from_within = omega (arith, c.in-ok-aim.ensures.within, n_is);
-      carried = omega (arith, c.in-ok-aim.ensures.carried, n_is);
+      from_within = omega (arith, c.in_ok-aim.ensures.within, n_is);
+      carried = omega (arith, c.in_ok-aim.ensures.carried, n_is);
       room = sym is_free ∙ subst (λ (t : Local). HasRoom t.news lanes) (sym (wrote.step places))
-          (write_news l (server c.index-mut.result.now) c.in-ok-aim.aim.server.number c.in-ok-aim.aim.object.number _ lanes);
+          (write_news l (server c.index_mut.result.now) c.in_ok-aim.aim.server.number c.in_ok-aim.aim.object.number _ lanes);
       range = wrote.sendable;
     }
 
@@ -113,25 +112,25 @@ returns g c =
     let x = c.args.object in
     let v = c.args.value.now in
     let L = g.C.Carrier.lanes m in
-    let M = g.C.Carrier.lanes c.tell-all.new.carrier in
+    let M = g.C.Carrier.lanes c.tell_all.new.carrier in
     let S = state q L in
     let places = g.C.Carrier.p m in
     let items = vec_items q.servers in
     let cells = q.code.cells in
-    let lt : s < length items = omega (arith, c.in-ok-aim.ensures.within, q.server_each, q.servers.ok.0) in
-    let new = c.own-write.new.p in
+    let lt : s < length items = omega (arith, c.in_ok-aim.ensures.within, q.server_each, q.servers.ok.0) in
+    let new = c.own_write.new.p in
     let n_is = c.servers-servers.ensures.counted in
-    let aimed = c.in-ok-aim.ensures.answer in
-    let valued = c.in-ok-value.ensures places in
-    let wrote = c.in-ok-written.ensures.step places in
-    let news = Some (meaning c.in-ok-written.written.notice) in
-    let room_is : c.all-free-lanes-free.result ≡ room l S s = c.all-free-lanes-free.ensures ∙ ap (free places L s) n_is in
+    let aimed = c.in_ok-aim.ensures.answer in
+    let valued = c.in_ok-value.ensures places in
+    let wrote = c.in_ok-written.ensures.step places in
+    let news = Some (meaning c.in_ok-written.written.notice) in
+    let room_is : c.all_free-lanes_free.result ≡ room l S s = c.all_free-lanes_free.ensures ∙ ap (free places L s) n_is in
     record {
-      step = took_joined nothing (λ _. tt) (write_why l s x v) s q.code.servers (local (Tagged c.in-ok-written.written.tag) (server new) news) _ _ _ (write_joined l S s x v nothing)
+      step = took_joined nothing (λ _. tt) (write_why l s x v) s q.code.servers (local (Tagged c.in_ok-written.written.tag) (server new) news) _ _ _ (write_joined l S s x v nothing)
           (by_value l S s x v (leb q.code.servers (g.C.Carrier.n m)) aimed.0 ∙ valued.0)
-          (wrote ∙ same_five (write_local l) (at_server cells items s lt c.index-mut.result.now c.index-mut.ensures.value) aimed.1.0 aimed.1.1 valued.1 room_is)
-          refl (put_is cells items s lt new L M ∙ ap (λ (N : Lanes Meaning). put S s (server new) N) (c.tell-all.ensures.lanes_after ∙ ap (λ (n : ℕ). spread_news L s n news) n_is));
+          (wrote ∙ same_five (write_local l) (at_server cells items s lt c.index_mut.result.now c.index_mut.ensures.value) aimed.1.0 aimed.1.1 valued.1 room_is)
+          refl (put_is cells items s lt new L M ∙ ap (λ (N : Lanes Meaning). put S s (server new) N) (c.tell_all.ensures.lanes_after ∙ ap (λ (n : ℕ). spread_news L s n news) n_is));
       same_code = refl;
-      same_servers = c.tell-all.ensures.same_servers;
-      same_places = c.tell-all.ensures.same_places;
+      same_servers = c.tell_all.ensures.same_servers;
+      same_places = c.tell_all.ensures.same_places;
     }
