@@ -6,7 +6,7 @@ use Rattle.rules.specs.State.{Layout, State, Server}
 use Rattle.rules.specs.Turns.{Found, turn, check, unless, Tagged, Refused, NothingReady, Apply}
 use Rattle.rules.specs.Updates.{queued}
 use Rattle.rules.specs.Writing.{apply, apply_at, apply_done, next_ready, write_at, without}
-use Rattle.server_split.specs.Steps.{has_room, taken_in, applied, apply_answer, apply_after, chosen}
+use Rattle.server.specs.Steps.{has_room, taken_in, applied, apply_answer, apply_after, chosen}
 use Rattle.steps.specs.Local.{Local, local}
 use Rattle.waiting.proofs.Choosing.{next_is}
 use Rattle.calls.specs.Refusing.{server_why}

@@ -15,7 +15,7 @@ use Rattle.rules.specs.Words.{upd}
 use Rattle.rules.specs.Writing.{put, history_room}
 use Rattle.steps.specs.Local.{Local, local, refused_or}
 use Rattle.replies.specs.Receiving.{settle_local, plain_by, plain_from, coded_symbol, coded_by, coded_from, got_local, deliver_local}
-use Rattle.group_split.proofs.Places.{put_self, upd_self}
+use Rattle.group.proofs.Places.{put_self, upd_self}
 use Rattle.calls.specs.Delivering.{answered_lanes}
 
 -- the lanes after a delivery: a refused one leaves them

@@ -6,7 +6,7 @@ use Rattle.rules.specs.State.{State}
 use Rattle.rules.specs.Turns.{Answer, Turn, turn, unless}
 use Rattle.rules.specs.Writing.{put}
 use Rattle.steps.specs.Local.{Local, local, refused_or}
-use Rattle.group_split.proofs.Places.{put_self}
+use Rattle.group.proofs.Places.{put_self}
 use Rattle.calls.specs.News.{spread_news, HasRoom}
 
 -- the server s of n answers, becomes another, and tells its news

@@ -13,7 +13,7 @@ use Rattle.carrier.specs.Lanes.{or_else}
 use Rattle.rules.specs.State.{Layout, Server}
 use Rattle.rules.specs.Turns.{Tagged, check}
 use Rattle.rules.specs.Writing.{write_tag}
-use Rattle.server_split.specs.Steps.{write_refusal, written, after, has_room}
+use Rattle.server.specs.Steps.{write_refusal, written, after, has_room}
 use Rattle.steps.specs.Local.{local, refused_or}
 use Rattle.calls.specs.Writing.{write_local, written_local}
 

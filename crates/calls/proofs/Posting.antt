@@ -1,7 +1,8 @@
 -- Posting to one server after the other. Assumes nothing.
-use Rattle.std.proofs.Common.{◌≡◌, ℕ, zero, suc, ◌+◌, ◌<◌, Bool, true, false, cond, not, ◌&&◌, ◌||◌, eqb, ltb, List, [], ◌∷◌, ◌++◌, length, Some, None, sym, refl, ap, ◌∙◌, ap₂, inl, inr, not-suc-le-zero, arith}
+use Rattle.std.proofs.Common.{◌≡◌, ℕ, zero, suc, ◌+◌, ◌<◌, Bool, true, false, cond, not, ◌&&◌, ◌||◌, eqb, ltb, List, [], ◌∷◌, ◌++◌, length, Some, None, Option, sym, refl, ap, ◌∙◌, ap₂, inl, inr, not-suc-le-zero, arith}
 use mathlib.Core.Path.{fun_ext}
 use Rattle.std.proofs.lemmas.Bool.{cases_eq, cases_order, eq-eqb, ne_eqb, lt-ltb, le-ltb}
+use Rattle.terms.specs.declared.refusal.Refusal.{Refusal}
 use Rattle.terms.specs.declared.refusal.Refusal.TheVariants.{NoSuchServer, EqualEnds, LaneFull, OutOfRange}
 use Rattle.terms.proofs.Tests.{and_left, and_right}
 use Rattle.message.specs.Meanings.{Meaning}
@@ -9,7 +10,7 @@ use Rattle.message.specs.Ranges.{in_range}
 use Rattle.carrier.specs.Lanes as carrier
 use Rattle.carrier.specs.Lanes.{with_lane}
 use Rattle.rules.specs.Lanes.{Lanes, spread}
-use Rattle.rules.specs.Words.{every}
+use Rattle.terms.specs.Lists.{every}
 use Rattle.calls.specs.Posting.{posted_other}
 
 pub every_at : (n : ℕ) (f : ℕ → Bool) → every n f ≡ true → (k : ℕ) → k < n → f k ≡ true
@@ -80,11 +81,9 @@ module _ (L : Lanes Meaning) (from to : ℕ) (m : Meaning) where
   unfolding spread
   spread_next = ap (λ y. cond (eqb from from && (y && not (eqb to from))) (pushed (L from to)) (L from to)) (le-ltb to to (omega arith)) ∙ off_second (pushed (L from to)) (L from to) (eqb from from) (eqb to from)
 
-  -- a carrier posts the message, unless the two ends are one server
-  abbrev told : Bool → Bool → Bool → Bool → Bool → Lanes Meaning
-  told a b same room range =
-      carrier.unless (carrier.or_else (cond (a && b) (cond same (Some EqualEnds) None) (Some NoSuchServer)) (carrier.or_else (cond room None (Some LaneFull)) (cond range None (Some OutOfRange)))) L
-      (with_lane L from to (pushed (L from to)))
+  -- a carrier's refusal, by what it tests
+  abbrev refusal : Bool → Bool → Bool → Bool → Bool → Option Refusal
+  refusal a b same room range = carrier.or_else (cond (a && b) (cond same (Some EqualEnds) None) (Some NoSuchServer)) (carrier.or_else (cond room None (Some LaneFull)) (cond range None (Some OutOfRange)))
 
   other_at : (to ≡ from → ⊥) → (a b : ℕ) → with_lane L from to (pushed (L from to)) a b ≡ posted_other L from to m a b
   unfolding with_lane posted_other
@@ -108,17 +107,21 @@ module _ (L : Lanes Meaning) (from to : ℕ) (m : Meaning) where
   self_at e a b =
       sym (ap (λ (k : ℕ). cond (eqb a from && (eqb b k && not (eqb b from))) (pushed (L a b)) (L a b)) e ∙ off_self (pushed (L a b)) (L a b) (eqb a from) (eqb b from))
 
-  pub post_is : (n p : ℕ) → from < n → to < n → (eqb to from || ltb (length (L from to)) p) ≡ true → in_range m ≡ true → carrier.posted n p L from to m ≡ posted_other L from to m
-  post_is n p f t room range =
+  -- between different servers nothing refuses the message
+  pub post_free : (n p : ℕ) → from < n → to < n → (to ≡ from → ⊥) → (eqb to from || ltb (length (L from to)) p) ≡ true → in_range m ≡ true → carrier.post_refusal n p L from to m ≡ None
+  post_free n p f t ne room range =
       let r = ltb (length (L from to)) p in
-      let known : told (ltb from n) (ltb to n) (eqb from to) r (in_range m) ≡ told true true (eqb from to) r true =
-      ap₂ (λ a b. told a b (eqb from to) r (in_range m)) (lt-ltb from n f) (lt-ltb to n t) ∙ ap (told true true (eqb from to) r) range in
-      elim (cases_eq to from) [
-        | inl e ↦ known ∙ ap (λ same. told true true same r true) (eq-eqb from to (sym e)) ∙ fun_ext (λ a. fun_ext (λ b. self_at e a b))
-        | inr ne ↦
-            let free_place : r ≡ true = sym (ap (λ same. same || r) (ne_eqb to from ne)) ∙ room in
-            known ∙ ap₂ (λ same free. told true true same free true) (ne_eqb from to (λ e. ne (sym e))) free_place ∙ fun_ext (λ a. fun_ext (λ b. other_at ne a b))
-      ]
+      let free_place : r ≡ true = sym (ap (λ same. same || r) (ne_eqb to from ne)) ∙ room in
+      ap₂ (λ a b. refusal a b (eqb from to) r (in_range m)) (lt-ltb from n f) (lt-ltb to n t) ∙ ap (refusal true true (eqb from to) r) range
+      ∙ ap₂ (λ same free. refusal true true same free true) (ne_eqb from to (λ e. ne (sym e))) free_place
+
+  -- and it is at the end of the lane then
+  pub post_is : (o : Option Refusal) → o ≡ None → (to ≡ from → ⊥) → carrier.unless o L (with_lane L from to (pushed (L from to))) ≡ posted_other L from to m
+  post_is o e ne = ap (λ (why : Option Refusal). carrier.unless why L (with_lane L from to (pushed (L from to)))) e ∙ fun_ext (λ a. fun_ext (λ b. other_at ne a b))
+
+  -- from a server to itself there is no lane
+  pub post_self : to ≡ from → L ≡ posted_other L from to m
+  post_self e = fun_ext (λ a. fun_ext (λ b. self_at e a b))
 
 -- before the first server nothing is posted
 pub spread_none : (L : Lanes Meaning) (from : ℕ) (m : Meaning) → L ≡ spread L from 0 m

@@ -1,6 +1,5 @@
 -- How it is shown that a call took the rules' step. Assumes nothing.
-use Rattle.std.proofs.Common.{◌≡◌, ℕ, Bool, true, false, IsErrAnd, Some, None, Err, Option, Result, sym, refl, ap, ◌∙◌}
-use Rattle.std.proofs.lemmas.Result.{err_from_is_err_and}
+use Rattle.std.proofs.Common.{◌≡◌, ℕ, Bool, true, false, Some, None, Option, sym, refl, ap, ◌∙◌}
 use Rattle.terms.specs.declared.refusal.Refusal.{Refusal}
 use Rattle.terms.specs.declared.refusal.Refusal.TheVariants.{NoSuchServer}
 use Rattle.rules.specs.Runs.{step, Allowed}
@@ -8,14 +7,10 @@ use Rattle.rules.specs.State.{Layout, State}
 use Rattle.rules.specs.Turns.{Call, Answer, Found, Turn, turn, unless, Refused}
 use Rattle.steps.specs.Local.{Local}
 use Rattle.steps.specs.Reading.{found_of}
-use Rattle.group_split.specs.Reached.{reached}
+use Rattle.group.specs.Reached.{reached}
 use Rattle.calls.specs.Refusing.{beside}
 use Rattle.calls.specs.Took.{Took}
 use Rattle.calls.proofs.Joining.{joined}
-
--- what the exit of a `?` returns
-pub broke : {A : Type 0} (r : Result A Refusal) (e : Refusal) → IsErrAnd r (λ y. y ≡ e) → r ≡ Err e
-broke r e h = let p = err_from_is_err_and r h in p.1 ∙ ap Err p.2
 
 -- what a call finds that looks for nothing
 abbrev pub nothing : Found

@@ -9,8 +9,8 @@ use Rattle.rules.specs.State.{Layout, State, Server}
 use Rattle.rules.specs.Turns.{Found, Turn, turn, check, unless, Tagged, Write}
 use Rattle.rules.specs.Updates.{reading, entered, counted}
 use Rattle.rules.specs.Writing.{write, elements, room, history_room, write_refusal, write_tag, write_done}
-use Rattle.server_split.specs.Steps as own
-use Rattle.server_split.specs.Steps.{taken_in}
+use Rattle.server.specs.Steps as own
+use Rattle.server.specs.Steps.{taken_in}
 use Rattle.steps.specs.Local.{refused_or}
 use Rattle.calls.specs.News.{HasRoom}
 use Rattle.calls.specs.Refusing.{object_why, value_why, beside}

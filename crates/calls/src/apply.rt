@@ -1,14 +1,14 @@
 // Apply: the lowest waiting write that is ready.
 ghost use Rattle.std.specs.Prelude.{◌≡◌, nat_le};
 ghost use Rattle.rules.specs.Turns.{Apply};
-ghost use Rattle.group_split.specs.States.{state, layout};
+ghost use Rattle.group.specs.States.{state, layout};
 ghost use Rattle.calls.specs.Told.{apply_told};
 ghost use Rattle.calls.specs.Took.{Took};
 
 use crate::reach::reach;
 use carrier::lanes::Carrier;
 use field::interface::Field;
-use group_split::group::Group;
+use group::group::Group;
 use message::tag::Tag;
 use terms::refusal::Refusal;
 

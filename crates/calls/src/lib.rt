@@ -1,4 +1,4 @@
-// The calls on a group beside any carrier. Each takes the step of the rules, finding what it may.
+// The calls on a group, beside any carrier. Each takes its step of the rules, and what it finds there is what the rules allow.
 #![tactic(auto)]
 
 pub mod apply;

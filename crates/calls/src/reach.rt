@@ -1,12 +1,12 @@
 // Whether a call reaches its server, and has its object.
 ghost use Rattle.std.specs.Prelude.{◌≡◌, ◌<◌, ◌≤◌, OnOk, nat_le};
 ghost use Rattle.terms.specs.Answers.{Answered};
-ghost use Rattle.group_split.specs.States.{layout};
+ghost use Rattle.group.specs.States.{layout};
 ghost use Rattle.calls.specs.Refusing.{beside, server_why, object_why};
 
 use carrier::lanes::Carrier;
 use field::interface::Field;
-use group_split::group::Group;
+use group::group::Group;
 use reads::numbers::{ObjectNumber, ServerNumber};
 use terms::refusal::Refusal;
 
@@ -30,13 +30,10 @@ pub(crate) fn reach<F: Field + Copy, C: Carrier>(
     if carrier.servers() < group.code.servers() {
         return Err(Refusal::NoSuchServer);
     }
-    if server >= group.code.servers() {
-        return Err(Refusal::NoSuchServer);
-    }
-    match ServerNumber::new(server) {
-        Some(number) => Ok(number),
-        None => Err(Refusal::NoSuchServer),
-    }
+    let servers = group.code.servers();
+    ServerNumber::new(server)
+        .filter(|k| k.number < servers)
+        .ok_or(Refusal::NoSuchServer)
 }
 
 // The server and the object, if the group has both too.
@@ -51,11 +48,9 @@ pub(crate) fn take_aim<F: Field + Copy, C: Carrier>(
     ensures carried { OnOk result (group.now.code.servers ≤ C.n carrier.now) }
 {
     let server = reach(group, carrier, server)?;
-    if object >= group.code.objects() {
-        return Err(Refusal::NoSuchObject);
-    }
-    match ObjectNumber::new(object) {
-        Some(object) => Ok(Aim { server, object }),
-        None => Err(Refusal::NoSuchObject),
-    }
+    let objects = group.code.objects();
+    let object = ObjectNumber::new(object)
+        .filter(|x| x.number < objects)
+        .ok_or(Refusal::NoSuchObject)?;
+    Ok(Aim { server, object })
 }

@@ -1,14 +1,14 @@
 // Sweep: what a server no longer needs of its history.
 ghost use Rattle.std.specs.Prelude.{◌≡◌, nat_le};
 ghost use Rattle.rules.specs.Turns.{Sweep};
-ghost use Rattle.group_split.specs.States.{state, layout};
+ghost use Rattle.group.specs.States.{state, layout};
 ghost use Rattle.calls.specs.Told.{sweep_told};
 ghost use Rattle.calls.specs.Took.{Took};
 
 use crate::reach::take_aim;
 use carrier::lanes::Carrier;
 use field::interface::Field;
-use group_split::group::Group;
+use group::group::Group;
 use terms::refusal::Refusal;
 
 // Forgets what the server no longer needs of the object, and tells how many entries those were.

@@ -1,18 +1,17 @@
 // Write: a value of an object, by one server.
 ghost use Rattle.std.specs.Prelude.{◌≡◌, nat_le};
 ghost use Rattle.rules.specs.Turns.{Write};
-ghost use Rattle.group_split.specs.States.{state, layout};
+ghost use Rattle.group.specs.States.{state, layout};
 ghost use Rattle.calls.specs.Told.{write_told};
 ghost use Rattle.calls.specs.Took.{Took};
 
 use crate::own_write::own_write;
-use crate::post::all_free;
+use crate::post::Sender;
 use crate::reach::take_aim;
-use crate::tell::tell_all;
 use crate::values::value_of;
 use carrier::lanes::Carrier;
 use field::interface::Field;
-use group_split::group::Group;
+use group::group::Group;
 use message::tag::Tag;
 use terms::refusal::Refusal;
 
@@ -32,9 +31,12 @@ pub fn write<F: Field + Copy, C: Carrier>(
     let aim = take_aim(group, carrier, server, object)?;
     let value = value_of(group, value)?;
     let code = group.code;
-    let servers = code.servers();
-    let lanes_free = all_free(carrier, server, servers);
+    let sender = Sender {
+        from: server,
+        servers: code.servers(),
+    };
+    let lanes_free = sender.all_free(carrier);
     let written = own_write(&mut group.servers[server], &code, aim, value, lanes_free)?;
-    tell_all(carrier, server, servers, Some(written.notice));
-    Ok(written.tag)
+    sender.tell_all(carrier, written);
+    Ok(written.answer)
 }

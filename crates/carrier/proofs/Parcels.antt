@@ -1,5 +1,6 @@
 -- A message put into a place of bytes. Assumes nothing.
 use Rattle.std.proofs.Common.{◌≡◌, ℕ, ◌≤◌, true, cond, List, length, drop, is_ok, None, Ok, Err, Result, sym, ap, ◌∙◌, ⊎_elim, arith}
+use Rattle.std.specs.Prelude.{⊤}
 use Rattle.std.proofs.lemmas.Bool.{cases_Bool, le-ltb, cond-true, cond-false}
 use Rattle.terms.specs.declared.refusal.Refusal.{Refusal}
 use Rattle.terms.specs.declared.refusal.Refusal.TheVariants.{OutOfRange}
@@ -10,6 +11,8 @@ use Rattle.wire.specs.Placed.{Placed, write_refusal}
 use Rattle.wire.specs.Reading.{reading}
 use Rattle.wire.specs.Writing.{encode}
 use Rattle.wire.proofs.Whole.{reading_there, short}
+use Rattle.terms.specs.Answers.{Answered}
+use Rattle.carrier.specs.Lanes.{range_refusal}
 use Rattle.carrier.specs.Changes.{some_none}
 use Rattle.carrier.specs.Parcels.{is_record, message_of, message_in}
 
@@ -23,7 +26,7 @@ module _ (m : Meaning) (xs ys : List ℕ) (whole : length xs ≡ max_record_byte
   -- what the place holds then
   pub record After (r : Result ℕ Refusal) : Type 0 where
     pub inside : is_record ys ≡ true
-    pub decided : is_ok r ≡ in_range m
+    pub told : Answered (range_refusal m) (λ _. ⊤) r
     pub holds : message_in ys ≡ cond (in_range m) m (message_in xs)
 
   pub put_after : (r : Result ℕ Refusal) → is_record xs ≡ true → Placed (write_refusal m (length xs)) (encode m) xs ys r → After r
@@ -33,7 +36,7 @@ module _ (m : Meaning) (xs ys : List ℕ) (whole : length xs ≡ max_record_byte
       let is : reading ys ≡ Ok (m, length (encode m)) = ap reading told.2 ∙ reading_there m (drop n xs) good in
       record {
         inside = ap is_ok is;
-        decided = sym good;
+        told = (cond-true _ _ _ good, tt);
         holds = ap message_of is ∙ sym (cond-true _ _ _ good);
       })
       (λ bad. absurd (some_none OutOfRange (sym (cond-false _ _ _ bad) ∙ told.0)))
@@ -44,7 +47,7 @@ module _ (m : Meaning) (xs ys : List ℕ) (whole : length xs ≡ max_record_byte
       (λ bad.
       record {
         inside = ap is_record told.1 ∙ before;
-        decided = sym bad;
+        told = cond-false _ _ _ bad ∙ sym (cond-false _ _ _ bad) ∙ told.0;
         holds = ap message_in told.1 ∙ sym (cond-false _ _ _ bad);
       })
       (cases_Bool (in_range m))

@@ -2,7 +2,7 @@
 use Rattle.std.specs.Prelude.{◌≡◌, ℕ, zero, suc, ◌+◌, ◌-◌, ◌*◌, ◌<◌, ◌≤◌, Bool, true, false, cond, not, ◌&&◌, List, [], ◌∷◌, ◌++◌, map, length, get_or, take, drop, replicate, Some, None, vec_items, vec_len, Option, ◌==◌, ◌≢◌, nat_lt, slice_index, slice_index_or, slice_set, refl}
 use Rattle.std.proofs.Common.{sym, ap, subst, ◌∙◌, ⊎_elim, arith, length-take}
 use Rattle.std.proofs.lemmas.List.{get_or-set_same, get_or-set_other, nil_from_length, length-map}
-use Rattle.std.proofs.lemmas.Bool.{cases_eq, cond-true, cond-false, le-ltb, lt-ltb, le-leb, and_from}
+use Rattle.std.proofs.lemmas.Bool.{cases_eq, cond-true, cond-false, le-ltb, lt-ltb, and_parts, leb-true}
 use Rattle.terms.specs.declared.refusal.Refusal.{Refusal}
 use Rattle.terms.specs.declared.refusal.Refusal.TheVariants.{LaneEmpty, LaneFull, OutOfRange}
 use Rattle.terms.specs.Limits.{min_servers, max_servers, min_places, max_places}
@@ -28,6 +28,14 @@ within_set used k v p known le within j =
     (λ e. subst (λ i. slice_index (slice_set used k v) i ≤ p) (sym e) (rw (get_or-set_same used k v 0 known) le))
     (λ ne. rw (get_or-set_other used k j v 0 ne) (within j))
     (cases_eq j k)
+
+-- what is not refused by its range is within it
+refused_out : (t : Bool) (e : Refusal) → cond t None (Some e) ≡ None → t ≡ true
+refused_out true e is = refl
+refused_out false e is = absurd (changes.some_none e is)
+
+ranged : (m : Meaning) → range_refusal m ≡ None → in_range m ≡ true
+ranged m told = refused_out (in_range m) OutOfRange told
 
 module _ {A : Type 0} (held : A → Meaning) (b : Blocks A) (from to k : ℕ) (at : Found b.n from to k) (ok : ends_refusal b.n from to ≡ None) where
   room : b.n * (b.n - 1) * b.p ≤ length (vec_items b.memory)
@@ -55,17 +63,20 @@ module _ {A : Type 0} (held : A → Meaning) (b : Blocks A) (from to k : ℕ) (a
       let short : length (lanes_of held b from to) < b.p = omega (arith, lane_long) in
       ends_passed _ ∙ ap (λ o. or_else o (range_refusal m)) (cond-true _ _ _ (lt-ltb _ _ short))
 
-  pub out_of_range : (m : Meaning) → slice_index b.used k < b.p → in_range m ≡ false → post_refusal b.n b.p (lanes_of held b) from to m ≡ Some OutOfRange
-  out_of_range m free bad = room_passed m free ∙ cond-false _ _ _ bad
+  pub refused : (m : Meaning) (e : Refusal) → slice_index b.used k < b.p → range_refusal m ≡ Some e → post_refusal b.n b.p (lanes_of held b) from to m ≡ Some e
+  refused m e free told = room_passed m free ∙ told
 
-  pub may_post : (m : Meaning) → slice_index b.used k < b.p → in_range m ≡ true → post_refusal b.n b.p (lanes_of held b) from to m ≡ None
-  may_post m free good = room_passed m free ∙ cond-true _ _ _ good
+  pub may_post : (m : Meaning) → slice_index b.used k < b.p → range_refusal m ≡ None → post_refusal b.n b.p (lanes_of held b) from to m ≡ None
+  may_post m free told = room_passed m free ∙ told
 
-  pub added : (x : A) (m : Meaning) → held x ≡ m → slice_index b.used k < b.p → in_range m ≡ true → lanes_over held b.n b.p (slice_set (vec_items b.memory) (k * b.p + slice_index b.used k) x) (slice_set b.used k (slice_index b.used k + 1)) ≡ posted b.n b.p (lanes_of held b) from to m
-  added x m is free good =
-      done_as _ _ _ _ (may_post m free good)
+  pub unused : (x : A) (m : Meaning) (e : Refusal) → slice_index b.used k < b.p → range_refusal m ≡ Some e → lanes_over held b.n b.p (slice_set (vec_items b.memory) (k * b.p + slice_index b.used k) x) b.used ≡ posted b.n b.p (lanes_of held b) from to m
+  unused x m e free told = changes.unused held b.n b.p (vec_items b.memory) b.used from to k at ok room b.within x free ∙ left _ _ _ _ (refused m e free told)
+
+  pub added : (x y : A) (m : Meaning) → held x ≡ cond (in_range m) m (held y) → slice_index b.used k < b.p → range_refusal m ≡ None → lanes_over held b.n b.p (slice_set (vec_items b.memory) (k * b.p + slice_index b.used k) x) (slice_set b.used k (slice_index b.used k + 1)) ≡ posted b.n b.p (lanes_of held b) from to m
+  added x y m is free told =
+      done_as _ _ _ _ (may_post m free told)
       (changes.added held b.n b.p (vec_items b.memory) b.used from to k at ok room b.within x free known
-      ∙ ap (λ y. with_lane (lanes_of held b) from to (lanes_of held b from to ++ y ∷ [])) is)
+      ∙ ap (λ z. with_lane (lanes_of held b) from to (lanes_of held b from to ++ z ∷ [])) (is ∙ cond-true _ _ _ (ranged m told)))
 
   pub empty : get_or b.used k 0 ≡ 0 → take_refusal b.n (lanes_of held b) from to ≡ Some LaneEmpty
   empty none = ends_passed _ ∙ ap empty_refusal (nil_from_length _ (lane_long ∙ none))
@@ -121,5 +132,29 @@ pub empty_lanes : {A : Type 0} (held : A → Meaning) (n p most : ℕ) (places :
 unfolding lanes_over
 empty_lanes held n p most places from to = empty_block held _ _ _ (zero_at most (lane_number n from to))
 
-pub laid : (n p size : ℕ) → min_servers ≤ n → n ≤ max_servers → min_places ≤ p → p ≤ max_places → n * (n - 1) * p ≤ size → layout_refusal n p size ≡ None
-laid n p size a b c d e = cond-true _ _ _ (and_from _ _ (le-leb _ _ a) (le-leb _ _ b)) ∙ cond-true _ _ _ (and_from _ _ (and_from _ _ (le-leb _ _ c) (le-leb _ _ d)) (le-leb _ _ e))
+both_tests : (s t : Bool) (x y : Refusal) → cond s (cond t None (Some x)) (Some y) ≡ None → (s ≡ true) × (t ≡ true)
+both_tests true true x y is = (refl, refl)
+both_tests true false x y is = absurd (changes.some_none x is)
+both_tests false t x y is = absurd (changes.some_none y is)
+
+-- what is not refused keeps the bounds
+pub record Within (n p size : ℕ) : Type 0 where
+  pub enough_servers : min_servers ≤ n
+  pub few_servers : n ≤ max_servers
+  pub some_places : min_places ≤ p
+  pub few_places : p ≤ max_places
+  pub room : n * (n - 1) * p ≤ size
+
+pub within_bounds : (n p size : ℕ) → layout_refusal n p size ≡ None → Within n p size
+within_bounds n p size is =
+    let t = both_tests _ _ _ _ is in
+    let servers = and_parts _ _ t.0 in
+    let rest = and_parts _ _ t.1 in
+    let places = and_parts _ _ rest.0 in
+    record {
+      enough_servers = leb-true _ _ servers.0;
+      few_servers = leb-true _ _ servers.1;
+      some_places = leb-true _ _ places.0;
+      few_places = leb-true _ _ places.1;
+      room = leb-true _ _ rest.1;
+    }

@@ -86,6 +86,21 @@ module _ {A : Type 0} (held : A → Meaning) (n p : ℕ) (mem : List A) (used : 
         ∙ map_push held _ x
         ∙ ap (λ l. l ++ held x ∷ []) (sym at_lane))
 
+    -- a place that is not in use
+    pub unused : (x : A) → slice_index used k < p → lanes_over held n p (slice_set mem (k * p + slice_index used k) x) used ≡ lanes_over held n p mem used
+    unused x free =
+        let h : ℕ = get_or used k 0 in
+        let place : ℕ = k * p + h in
+        let low : k * p ≤ place = omega arith in
+        let high : place < k * p + p = omega arith in
+        let here : h ≤ h = omega arith in
+        changed _ used
+        (record { below = take-set-le _ mem place x low; above = drop-set-lt _ mem place x high })
+        (λ j ne. refl)
+        (lanes_over held n p mem used from to)
+        (ap (λ l. map held (take h l)) (drop-set-add (k * p) mem h x) ∙ ap (map held) (take-set-le h (drop (k * p) mem) h x here) ∙ sym at_lane)
+        ∙ sym (with_lane_is (lanes_over held n p mem used) (lanes_over held n p mem used) from to _ refl (λ f t ne. refl))
+
     -- the first of a lane that holds some
     pub front : (x : A) → (slice_index used k ≢ 0) → x ≡ slice_index_or mem (k * p) x → lanes_over held n p mem used from to ≡ held x ∷ drop 1 (lanes_over held n p mem used from to)
     front x ne is =

@@ -4,10 +4,11 @@ ghost use Rattle.terms.specs.Limits.{min_servers, max_servers, min_places, max_p
 
 use crate::parcel::Parcel;
 use message::kinds::Message;
+use std::error::Error;
+use std::fmt;
 use terms::limits::MAX_LANES;
 use terms::refusal::Refusal;
 
-mod calls;
 pub mod carry;
 pub mod layout;
 
@@ -27,12 +28,29 @@ pub struct Blocks<P> {
     ghost within: { (k : ℕ) → slice_index used k ≤ p },
 }
 
-// Why there is no carrier, and the memory.
+// A refusal to lay a carrier, which gives the memory back.
 #[derive(Drop)]
 pub struct NotLaid<P> {
     pub refusal: Refusal,
     pub memory: Vec<P>,
 }
+
+// It tells its refusal alone.
+impl<P> fmt::Display for NotLaid<P> {
+    fn fmt<W: fmt::Write>(&self, f: &mut fmt::Formatter<W>) -> fmt::Result {
+        let refusal = self.refusal;
+        write!(f, "{refusal}")
+    }
+}
+
+impl<P> fmt::Debug for NotLaid<P> {
+    fn fmt<W: fmt::Write>(&self, f: &mut fmt::Formatter<W>) -> fmt::Result {
+        let refusal = self.refusal;
+        write!(f, "{refusal:?}")
+    }
+}
+
+impl<P: Drop> Error for NotLaid<P> {}
 
 // Keeps each message as it is.
 pub type RecordCarrier = Blocks<Message>;

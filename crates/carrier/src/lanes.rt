@@ -1,5 +1,5 @@
 // What a carrier is, by the lists in its lanes.
-ghost use Rattle.std.specs.Prelude.{◌≡◌, ℕ, ◌≤◌, [], ◌∷◌, length, drop, Some};
+ghost use Rattle.std.specs.Prelude.{◌≡◌, ℕ, ◌≤◌, [], ◌∷◌, ⊤, length, drop, Some};
 ghost use Rattle.terms.specs.declared.refusal.Refusal.{Refusal};
 ghost use Rattle.terms.specs.Answers.{Answered};
 ghost use Rattle.message.specs.Meanings.{meaning};
@@ -35,7 +35,7 @@ pub trait Carrier {
 
     // Adds a message at the end of a lane.
     fn post(&mut self, from: usize, to: usize, m: Message) -> Result<(), Refusal>
-        ensures answer { Answered (post_refusal (n self.old) (p self.old) (lanes self.old) from to (meaning m)) (λ _. Unit {0}) result }
+        ensures answer { Answered (post_refusal (n self.old) (p self.old) (lanes self.old) from to (meaning m)) (λ _. ⊤) result }
         ensures lanes_after { lanes self.new ≡ posted (n self.old) (p self.old) (lanes self.old) from to (meaning m) }
         ensures same_servers { n self.new ≡ n self.old }
         ensures same_places { p self.new ≡ p self.old };

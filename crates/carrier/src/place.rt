@@ -1,12 +1,15 @@
 // A kind of place: it holds one message.
-ghost use Rattle.std.specs.Prelude.{◌≡◌, IfOk, if◌then◌else◌, vec_len};
+ghost use Rattle.std.specs.Prelude.{◌≡◌, ⊤, IfOk, if◌then◌else◌, vec_len};
+ghost use Rattle.terms.specs.Answers.{Answered};
 ghost use Rattle.message.specs.Meanings.{Meaning, meaning};
 ghost use Rattle.message.specs.Ranges.{in_range};
+ghost use Rattle.carrier.specs.Lanes.{range_refusal};
 ghost use Rattle.carrier.specs.Parcels.{blank_message};
 
 use message::kinds::Message;
 use message::tag::Tag;
 use std::alloc::{AllocError, Global};
+use terms::refusal::Refusal;
 
 pub trait Place: Copy {
     // the message that the place holds
@@ -17,8 +20,8 @@ pub trait Place: Copy {
         ensures blank { held result ≡ blank_message };
 
     // Puts a message that is within its ranges in the place of what is there; any other leaves it.
-    fn put(&mut self, m: &Message) -> bool
-        ensures decided { result ≡ in_range (meaning m.now) }
+    fn put(&mut self, m: &Message) -> Result<(), Refusal>
+        ensures answer { Answered (range_refusal (meaning m.now)) (λ _. ⊤) result }
         ensures after { held self.new ≡ (if in_range (meaning m.now) then meaning m.now else held self.old) };
 
     fn message(&self) -> Message
@@ -36,12 +39,12 @@ impl Place for Message {
         }
     }
 
-    fn put(&mut self, m: &Message) -> bool {
+    fn put(&mut self, m: &Message) -> Result<(), Refusal> {
         if !m.is_in_range() {
-            return false;
+            return Err(Refusal::OutOfRange);
         }
         *self = *m;
-        true
+        Ok(())
     }
 
     fn message(&self) -> Message {
@@ -53,9 +56,5 @@ impl Place for Message {
 pub fn blank_places<P: Place>(heap: Global, count: usize) -> Result<Vec<P>, AllocError>
     ensures as_many { IfOk result (λ v. vec_len v ≡ count) }
 {
-    let mut memory = Vec::new(heap);
-    for _i in 0..count {
-        memory.push(P::blank())?;
-    }
-    Ok(memory)
+    Ok(vec![in heap; P::blank(); count]?)
 }

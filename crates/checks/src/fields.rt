@@ -47,29 +47,25 @@ fn gf256_at_its_edges(rt: HostRuntime) {
 // Every product by shift and exclusive or, against the one from the table of powers.
 #[test]
 fn gf256_products_bit_by_bit(rt: HostRuntime) {
-    for x in 0..256u16 {
-        for y in 0..256u16 {
-            let by_bits = shifted_product(x, y);
-            assert_eq!(rt;
-                u16::from(Gf256::mul((x & 255) as u8, (y & 255) as u8)),
-                by_bits
-            );
+    for x in 0..=255u8 {
+        for y in 0..=255u8 {
+            assert_eq!(rt; u16::from(Gf256::mul(x, y)), shifted_product(x, y));
         }
     }
 }
 
-fn shifted_product(x: u16, y: u16) -> u16 {
-    let mut left = x & 255;
-    let mut right = y & 255;
+fn shifted_product(x: u8, y: u8) -> u16 {
+    let mut left = u16::from(x);
+    let mut right = y;
     let mut sum = 0;
     for _ in 0..8u8 {
         if right & 1 == 1 {
-            sum = sum ^ left;
+            sum ^= left;
         }
         right = right / 2;
         left = (left & 0x7fff) * 2;
         if left & 256 == 256 {
-            left = left ^ 0x11d;
+            left ^= 0x11d;
         }
     }
     sum
@@ -77,12 +73,10 @@ fn shifted_product(x: u16, y: u16) -> u16 {
 
 #[test]
 fn every_element_but_0_has_an_inverse(rt: HostRuntime) {
-    for x in 1..251u16 {
-        let x = (x & 255) as u8;
+    for x in 1..251u8 {
         assert_eq!(rt; Mod251::mul(x, Mod251::inv(x)), 1);
     }
-    for x in 1..256u16 {
-        let x = (x & 255) as u8;
+    for x in 1..=255u8 {
         assert_eq!(rt; Gf256::mul(x, Gf256::inv(x)), 1);
     }
 }

@@ -2,8 +2,12 @@
 #![tactic(auto)]
 
 #[cfg(test)]
+mod cells;
+#[cfg(test)]
 mod codes;
 #[cfg(test)]
 mod fields;
 #[cfg(test)]
 mod recovery;
+#[cfg(test)]
+mod refusals;

@@ -1,5 +1,5 @@
 -- What it tells that sizes and table are within their bounds. Assumes nothing.
-use Rattle.std.proofs.Common.{◌≡◌, ℕ, ◌+◌, ◌*◌, ◌<◌, ◌≤◌, Bool, true, false, cond, eqb, ltb, leb, List, length, get_or, Some, None, Option, refl, mul-le-mul, arith, ltb-true, eqb-true}
+use Rattle.std.proofs.Common.{◌≡◌, ℕ, ◌+◌, ◌*◌, ◌<◌, ◌≤◌, Bool, true, false, cond, eqb, ltb, leb, List, length, get_or, Some, None, Option, refl, arith, ltb-true, eqb-true}
 use Rattle.std.proofs.lemmas.Nat.{mul-add-lt}
 use Rattle.std.proofs.lemmas.Bool.{leb-true}
 use Rattle.terms.specs.declared.refusal.Refusal.{Refusal}
@@ -43,9 +43,6 @@ module _ {q n k w : ℕ} {table : List ℕ} (S : Sized q n k w table) where
 
   pub table_long : length table ≡ n * k
   table_long = eqb-true (length table) (n * k) (and_left (eqb (length table) (n * k)) (all_elements q table) S.rows)
-
-  pub table_short : length table ≤ 36
-  table_short = let product : n * k ≤ 6 * 6 = mul-le-mul few narrow in omega (arith, table_long)
 
   -- the place of a row's coefficient is within the table
   place : (s x : ℕ) → s < n → x < k → s * k + x < n * k

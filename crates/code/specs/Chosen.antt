@@ -2,7 +2,7 @@
 use Rattle.std.specs.Prelude.{◌≡◌, ℕ, ◌<◌, ◌≤◌, Bool, true, cond, List, slice_index}
 use Rattle.terms.specs.Lists.{listed}
 use Rattle.field.specs.Sums.{dot}
-use Rattle.matrix.specs.Matrices.{entry}
+use Rattle.matrix.specs.Matrices.{row_count, entry}
 use Rattle.code.specs.Codings.{Coding}
 
 -- the row has the server's coefficients, and 0 past the objects
@@ -21,4 +21,4 @@ shown set symbols c s = cond (set s) (slice_index (symbols s) c) 0
 
 -- the sum of the symbols of the set's servers, each times its factor, cell by cell
 abbrev pub weighed : Coding → (ℕ → ℕ) → (ℕ → Bool) → (ℕ → List ℕ) → List ℕ
-weighed g factors set symbols = listed g.cells (λ c. dot g.arithmetic 6 factors (shown set symbols c))
+weighed g factors set symbols = listed g.cells (λ c. dot g.arithmetic row_count factors (shown set symbols c))

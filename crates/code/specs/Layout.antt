@@ -3,7 +3,7 @@ use Rattle.std.specs.Prelude.{◌≡◌, ℕ, ◌+◌, ◌*◌, ◌<◌, ◌≤�
 use Rattle.terms.specs.declared.refusal.Refusal.{Refusal}
 use Rattle.terms.specs.declared.refusal.Refusal.TheVariants.{ServersOutOfBounds, ObjectsOutOfBounds, CellsOutOfBounds, NoTable, ObjectNotRecovered}
 use Rattle.terms.specs.Limits.{min_servers, max_servers, max_objects, max_cells}
-use Rattle.terms.specs.Lists.{each}
+use Rattle.std.specs.List.{list_all}
 use Rattle.field.specs.Arithmetic.{Arithmetic}
 use Rattle.code.specs.Codings.{Coding}
 use Rattle.code.specs.Recovery.{Recovers}
@@ -41,7 +41,7 @@ within least most n = nat_le least n && nat_le n most
 
 -- each number of the list is an element
 abbrev pub all_elements : ℕ → List ℕ → Bool
-all_elements q xs = each (λ x. nat_lt x q) xs
+all_elements q xs = list_all (λ x. nat_lt x q) xs
 
 -- n rows of k elements
 abbrev pub is_table : ℕ → ℕ → ℕ → List ℕ → Bool

@@ -4,7 +4,8 @@ use Rattle.terms.specs.declared.refusal.Refusal.{Refusal}
 use Rattle.terms.specs.declared.refusal.Refusal.TheVariants.{NoSuchServer, NoSuchObject, WrongLength, NoElement}
 use Rattle.terms.specs.Answers.{unless}
 use Rattle.terms.specs.Limits.{max_servers}
-use Rattle.terms.specs.Lists.{each, every}
+use Rattle.terms.specs.Lists.{every}
+use Rattle.std.specs.List.{list_all}
 use Rattle.code.specs.Codings.{Coding}
 use Rattle.code.specs.Layout.{all_elements}
 
@@ -14,13 +15,13 @@ known_set n set = every max_servers (λ s. not (set s) || nat_lt s n)
 
 -- each value has one number for each cell
 abbrev pub all_long : ℕ → List (List ℕ) → Bool
-all_long w vs = each (λ v. nat_eq (length v) w) vs
+all_long w vs = list_all (λ v. nat_eq (length v) w) vs
 
 -- each value has elements only
 abbrev pub all_in_field : ℕ → List (List ℕ) → Bool
-all_in_field q vs = each (λ v. all_elements q v) vs
+all_in_field q vs = list_all (λ v. all_elements q v) vs
 
--- the values of n things
+-- n values of the code's cells, all of them elements
 abbrev pub values_refusal : Coding → ℕ → List (List ℕ) → Option Refusal
 values_refusal g n vs =
     unless (length vs == n && all_long g.cells vs) WrongLength

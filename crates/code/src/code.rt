@@ -7,12 +7,15 @@ use std::alloc::AllocError;
 use terms::bounded::Bounded;
 use terms::limits::MAX_TABLE;
 
+pub mod any_cells;
+pub mod bounds;
 pub mod coefficients;
 pub mod layout;
 pub mod recovery;
 pub mod sizes;
+mod sums;
 pub mod symbols;
-mod values;
+pub mod values;
 
 pub struct Code<F: Copy> {
     // The field, so that a code cannot be used over another.

@@ -1,5 +1,5 @@
 // Messages on the lines between offices: as bytes, and in lanes.
-use crate::offices::{OFFICE_NAMES, record};
+use crate::offices::{ALL_OFFICES, BONDS};
 use carrier::blocks::Blocks;
 use carrier::lanes::Carrier;
 use carrier::parcel::Parcel;
@@ -15,19 +15,15 @@ const SERVERS: usize = 3;
 
 const PLACES: usize = 2;
 
-const LANES: usize = 6;
+const LANES: usize = SERVERS * (SERVERS - 1);
 
 // Seoul's notice of the bonds' record, as it goes over the line.
 fn notice() -> Message {
-    let clock = match Clock::from_slice(0, &[1, 0, 0]) {
-        Some(clock) => clock,
-        None => Clock::new(0),
-    };
     Message::WriteNotice {
         object: 1,
-        value: record(1),
+        value: BONDS.record(),
         height: 1,
-        clock,
+        clock: Clock::from_slice(0, &[1, 0, 0]).unwrap(),
     }
 }
 
@@ -90,21 +86,17 @@ fn lane_over<P: Place + Drop>(rt: &HostRuntime, title: &str) -> anyhow::Result<(
     println!(rt; "")?;
     println!(rt; "  {title}")?;
     let memory = blank_places::<P>(rt.alloc(), LANES * PLACES)?;
-    match Blocks::new(SERVERS, PLACES, memory) {
-        Ok(mut carrier) => {
-            fill(rt, &mut carrier)?;
-            empty(rt, &mut carrier)?;
-            Ok(())
-        }
-        Err(no) => Err(no.refusal.into()),
-    }
+    let mut carrier = Blocks::new(SERVERS, PLACES, memory)?;
+    fill(rt, &mut carrier)?;
+    empty(rt, &mut carrier)?;
+    Ok(())
 }
 
 // Three tag notices from Seoul to Dublin: one more than there is room for.
 fn fill<C: Carrier>(rt: &HostRuntime, carrier: &mut C) -> io::Result<()> {
     for height in 1..4u32 {
         let tag = Tag { height, server: 0 };
-        let to = OFFICE_NAMES[2];
+        let to = ALL_OFFICES[2].name;
         match carrier.post(0, 2, Message::TagNotice { object: 1, tag }) {
             Ok(()) => println!(rt; "    posted to {to}: tag notice, height {height}")?,
             Err(refusal) => println!(rt; "    not posted, {refusal}")?,
@@ -114,7 +106,7 @@ fn fill<C: Carrier>(rt: &HostRuntime, carrier: &mut C) -> io::Result<()> {
 }
 
 fn empty<C: Carrier>(rt: &HostRuntime, carrier: &mut C) -> io::Result<()> {
-    for _i in 0..3u8 {
+    for _ in 0..3u8 {
         match carrier.take(0, 2) {
             Ok(message) => {
                 print!(rt; "    taken: ")?;

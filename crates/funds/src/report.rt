@@ -2,7 +2,7 @@
 use crate::offices::*;
 use code::code::Code;
 use field::interface::Field;
-use std::io;
+use std::{array, io};
 use terms::bounded::Cells;
 use terms::servers::ServerSet;
 
@@ -10,10 +10,10 @@ use terms::servers::ServerSet;
 pub fn records(rt: &HostRuntime) -> io::Result<()> {
     println!(rt; "The fund records, sixteen cells each")?;
     println!(rt; "")?;
-    for x in 0..FUNDS {
-        let name = FUND_NAMES[x];
+    for fund in &ALL_FUNDS {
+        let name = fund.name;
         print!(rt; "  {name:<9} |")?;
-        text(rt, &record(x))?;
+        text(rt, &fund.record())?;
         println!(rt; "|")?;
     }
     Ok(())
@@ -23,31 +23,31 @@ pub fn records(rt: &HostRuntime) -> io::Result<()> {
 pub fn task<F: Field + Copy>(rt: &HostRuntime, field: F, title: &str) -> anyhow::Result<()> {
     println!(rt; "")?;
     println!(rt; "{title}")?;
-    let code = Code::new(field, OFFICES, FUNDS, CELLS, &TABLE)?;
+    let code = Code::new(field, OFFICES, FUNDS, CELLS, all_rows().as_flattened())?;
     let symbols = all_symbols(&code)?;
-    kept(rt, &code)?;
+    kept(rt, &code, &symbols)?;
     losses(rt, &code)?;
     rebuilt(rt, &code, &symbols)
 }
 
 fn all_symbols<F: Field + Copy>(code: &Code<F>) -> anyhow::Result<[Cells; OFFICES]> {
     let values = all_records();
-    let mut symbols = [Cells::new(0); OFFICES];
-    for s in 0..OFFICES {
-        symbols[s] = code.symbol(s, &values)?;
-    }
-    Ok(symbols)
+    Ok(array::try_from_fn(|s| code.symbol(s, &values))?)
 }
 
 // Each office's row and symbol.
-fn kept<F: Field + Copy>(rt: &HostRuntime, code: &Code<F>) -> anyhow::Result<()> {
+fn kept<F: Field + Copy>(
+    rt: &HostRuntime,
+    code: &Code<F>,
+    symbols: &[Cells; OFFICES],
+) -> anyhow::Result<()> {
     println!(rt; "")?;
     println!(rt; "  office    row     symbol, cell by cell, in hexadecimal")?;
-    for s in 0..OFFICES {
-        let name = OFFICE_NAMES[s];
+    for (s, (office, symbol)) in ALL_OFFICES.iter().zip(symbols).enumerate() {
+        let name = office.name;
         print!(rt; "  {name:<8}")?;
         row(rt, code, s)?;
-        hexadecimal(rt, &code.symbol(s, &all_records())?)?;
+        hexadecimal(rt, symbol)?;
     }
     Ok(())
 }
@@ -84,20 +84,19 @@ fn word(recovered: bool) -> &'static str {
 
 // The offices in reach whose bit is set.
 fn in_reach(mask: usize) -> anyhow::Result<ServerSet> {
-    let bits = [1usize, 2, 4];
     let mut set = ServerSet::empty();
-    for i in 0..3usize {
-        if mask & bits[i] != 0 {
-            set = set.with(REACHED[i])?;
+    for (office, bit) in REACHED.iter().zip([1usize, 2, 4]) {
+        if mask & bit != 0 {
+            set = set.with(*office)?;
         }
     }
     Ok(set)
 }
 
 fn names(rt: &HostRuntime, set: &ServerSet) -> io::Result<()> {
-    for s in 0..OFFICES {
+    for (s, office) in ALL_OFFICES.iter().enumerate() {
         if set.has(s) {
-            let name = OFFICE_NAMES[s];
+            let name = office.name;
             print!(rt; "  {name}")?;
         }
     }
@@ -114,13 +113,13 @@ fn rebuilt<F: Field + Copy>(
     println!(rt; "  Rebuilt from the symbols of London, Oakland and Oregon:")?;
     println!(rt; "")?;
     let set = ServerSet::of(&REACHED)?;
-    for x in 0..FUNDS {
-        let name = FUND_NAMES[x];
+    for (x, fund) in ALL_FUNDS.iter().enumerate() {
+        let name = fund.name;
         print!(rt; "  {name:<9} |")?;
         match code.decode(&set, symbols, x)? {
             Some(value) => {
                 text(rt, &value)?;
-                let same = value.as_slice() == record(x).as_slice();
+                let same = value.as_slice() == fund.record().as_slice();
                 println!(rt;
                     "|  {}",
                     if same {

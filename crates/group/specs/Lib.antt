@@ -1,5 +1,3 @@
-pub mod Posting
+pub mod Lookups
 pub mod Reached
 pub mod States
-pub mod Told
-pub mod Writing

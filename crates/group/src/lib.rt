@@ -1,4 +1,4 @@
-// The group: servers that share objects, laid out over a code, and the calls on it beside any carrier.
+// The group: servers that share objects, laid out over a code, and what they keep, looked up.
 #![tactic(auto)]
 
 pub mod group;

@@ -1,19 +1,30 @@
 -- What the reduced matrix says of the unknown. Assumes nothing.
-use Rattle.std.proofs.Common.{◌≡◌, ℕ, zero, suc, ◌+◌, ◌<◌, ◌≤◌, Bool, cond, ltb, ◌⊎◌, List, get_or, sym, refl, ap, ◌∙◌, subst, inl, inr, not-suc-le-zero, arith, le-ltb, lt-ltb}
-use Rattle.std.proofs.lemmas.Bool.{cases_eq, cases_lt}
+use Rattle.std.proofs.Common.{◌≡◌, ℕ, zero, suc, ◌+◌, ◌<◌, ◌≤◌, Bool, cond, ltb, ◌⊎◌, List, get_or, None, Some, Option, sym, refl, ap, ◌∙◌, subst, inl, inr, not-suc-le-zero, arith, le-ltb, lt-ltb}
+use Rattle.std.proofs.lemmas.Bool.{cases_eq}
+use Rattle.std.proofs.lemmas.Option.{none-some, same_Some}
 use Rattle.field.specs.Arithmetic.{Arithmetic}
 use Rattle.field.specs.Laws.{Ring, Inverses}
 use Rattle.field.specs.Sums.{dot, Below}
 use Rattle.matrix.specs.Matrices.{entry, row_sum, Determines, Solves}
-use Rattle.matrix.specs.Elimination.{Elements, Leads, Echelon, WidenedRow, Widened, ReducedTo}
+use Rattle.matrix.specs.Elimination.{Elements, Free, NoPivot, Leads, Echelon, WidenedRow, Widened, ReducedTo}
 use Rattle.matrix.proofs.Widening as widening
 use Rattle.field.proofs.Algebra as algebra
 
+-- a row leads a column, or none
+leads_or_free : (o : Option ℕ) → ((l : ℕ) × (o ≡ Some l)) ⊎ (o ≡ None)
+leads_or_free (Some l) = inl (l, refl)
+leads_or_free None = inr refl
+
+-- a row leads the column j, or does not
+leads_or_not : (o : Option ℕ) (j : ℕ) → (o ≡ Some j) ⊎ (o ≡ Some j → ⊥)
+leads_or_not None j = inr (none-some j)
+leads_or_not (Some l) j = elim (cases_eq l j) [ inl e ↦ inl (ap Some e) | inr ne ↦ inr (λ e. ne (same_Some l j e)) ]
+
 -- some place below n has f at j, or none has
-leader : (f : ℕ → ℕ) (n j : ℕ) → ((p : ℕ) × (p < n) × (f p ≡ j)) ⊎ ((p : ℕ) → p < n → f p ≡ j → ⊥)
+leader : (f : ℕ → Option ℕ) (n j : ℕ) → ((p : ℕ) × (p < n) × (f p ≡ Some j)) ⊎ ((p : ℕ) → p < n → f p ≡ Some j → ⊥)
 leader f zero j = inr (λ p h e. not-suc-le-zero h)
 leader f (suc n) j =
-    elim (cases_eq (f n) j) [
+    elim (leads_or_not (f n) j) [
       | inl e ↦ inl (n, omega arith, e)
       | inr ne ↦ elim (leader f n j) [
         | inl w ↦ inl (w.0, omega arith, w.2)
@@ -40,26 +51,26 @@ module _ {ar : Arithmetic} (R : Ring ar) where
         ∙ sym (algebra.sum_one R 6 i (λ v. ar.times (entry s i (6 + v)) (b v)) hi (R.times_below (entry s i (6 + i)) (b i))
         (λ v h ne. ap (λ (w : ℕ). ar.times w (b v)) (o.others v h ne) ∙ algebra.zero_times R (b v) (hb v h)) ∙ here)
 
-    module _ {inverse : ℕ → ℕ} (I : Inverses ar inverse) (k : ℕ) (hk : k < 6) (m : List (List ℕ)) (lead : List ℕ) (done : ReducedTo ar k s m lead) where
+    module _ {inverse : ℕ → ℕ} (I : Inverses ar inverse) (k : ℕ) (hk : k < 6) (m : List (List ℕ)) (leads : List (Option ℕ)) (done : ReducedTo ar k s m leads) where
       em : Elements ar.size m
       em = done.elements
 
-      e : Echelon k m lead 6
+      e : Echelon k m leads 6
       e = done.echelon
 
       -- a row that leads none is 0 but at k
-      alone : (r : ℕ) (x : ℕ → ℕ) → r < 6 → 6 ≤ get_or lead r 0 → Below ar.size 6 x → dot ar 6 (entry m r) x ≡ ar.times (entry m r k) (x k)
+      alone : (r : ℕ) (x : ℕ → ℕ) → r < 6 → Free leads r → Below ar.size 6 x → dot ar 6 (entry m r) x ≡ ar.times (entry m r k) (x k)
       alone r x hr un hx =
           algebra.sum_one R 6 k (λ j. ar.times (entry m r j) (x j)) hk (R.times_below (entry m r k) (x k))
           (λ j h ne. ap (λ (v : ℕ). ar.times v (x j)) (e.clear j h ne r hr un) ∙ algebra.zero_times R (x j) (hx j h))
 
       -- what such a row makes of the sums b of the matrix's rows
-      combined : (r : ℕ) (x b : ℕ → ℕ) → r < 6 → 6 ≤ get_or lead r 0 → Below ar.size 6 x → Below ar.size 6 b
+      combined : (r : ℕ) (x b : ℕ → ℕ) → r < 6 → Free leads r → Below ar.size 6 x → Below ar.size 6 b
           → ((i : ℕ) → i < 6 → dot ar 6 (entry rows i) x ≡ b i)
           → ar.times (entry m r k) (x k) ≡ dot ar 6 (λ v. entry m r (6 + v)) b
       combined r x b hr un hx hb is = sym (alone r x hr un hx) ∙ done.kept.forth x b hx hb (start x b hx hb is) r hr
 
-      pub solved : (r : ℕ) (factors : List ℕ) → r < 6 → 6 ≤ get_or lead r 0 → (entry m r k ≡ 0 → ⊥)
+      pub solved : (r : ℕ) (factors : List ℕ) → r < 6 → Free leads r → (entry m r k ≡ 0 → ⊥)
           → ((v : ℕ) → v < 6 → get_or factors v 0 ≡ ar.times (inverse (entry m r k)) (entry m r (6 + v)))
           → Solves ar rows k factors
       solved r factors hr un piv is = record { elements = below; adds_up = adds }
@@ -87,15 +98,15 @@ module _ {ar : Arithmetic} (R : Ring ar) where
       record Value (j v : ℕ) : Type 0 where
         value_below : v < ar.size
         value_own : j ≡ k → v ≡ 1
-        value_led : (p : ℕ) → p < 6 → get_or lead p 0 ≡ j → j < 6 → (j ≡ k → ⊥) → ar.plus (ar.times (entry m p j) v) (entry m p k) ≡ 0
-        value_free : ((p : ℕ) → p < 6 → get_or lead p 0 ≡ j → ⊥) → (j ≡ k → ⊥) → v ≡ 0
+        value_led : (p : ℕ) → p < 6 → get_or leads p None ≡ Some j → j < 6 → (j ≡ k → ⊥) → ar.plus (ar.times (entry m p j) v) (entry m p k) ≡ 0
+        value_free : ((p : ℕ) → p < 6 → get_or leads p None ≡ Some j → ⊥) → (j ≡ k → ⊥) → v ≡ 0
 
       -- at most one row leads a column
-      one_leads : (p r : ℕ) → p < 6 → r < 6 → get_or lead p 0 < 6 → get_or lead p 0 ≡ get_or lead r 0 → p ≡ r
-      one_leads p r hp hr h is =
+      one_leads : (p r l : ℕ) → p < 6 → r < 6 → get_or leads p None ≡ Some l → get_or leads r None ≡ Some l → p ≡ r
+      one_leads p r l hp hr ep er =
           elim (cases_eq p r) [
             | inl same ↦ same
-            | inr ne ↦ absurd ((e.leads p hp h).pivot (ap (entry m p) is ∙ (e.leads r hr (omega arith)).others p hp ne))
+            | inr ne ↦ absurd ((e.led p l hp ep).pivot ((e.led r l hr er).others p hp ne))
           ]
 
       value : (j : ℕ) → (v : ℕ) × Value j v
@@ -110,7 +121,7 @@ module _ {ar : Arithmetic} (R : Ring ar) where
                 value_free = λ none ne. absurd (ne own);
               },
             )
-            | inr ne ↦ elim (leader (λ p. get_or lead p 0) 6 j) [
+            | inr ne ↦ elim (leader (λ p. get_or leads p None) 6 j) [
               | inl w ↦ (
                 ar.minus (ar.times (entry m w.0 k) (inverse (entry m w.0 j))),
                 record {
@@ -132,7 +143,7 @@ module _ {ar : Arithmetic} (R : Ring ar) where
             ]
           ]
         where
-          led : (r : ℕ) → r < 6 → get_or lead r 0 ≡ j → (p : ℕ) → p < 6 → get_or lead p 0 ≡ j → j < 6
+          led : (r : ℕ) → r < 6 → get_or leads r None ≡ Some j → (p : ℕ) → p < 6 → get_or leads p None ≡ Some j → j < 6
               → ar.plus (ar.times (entry m p j) (ar.minus (ar.times (entry m r k) (inverse (entry m r j))))) (entry m p k) ≡ 0
           led r hr er p hp ep hj =
               let a : ℕ = entry m r k in
@@ -141,8 +152,8 @@ module _ {ar : Arithmetic} (R : Ring ar) where
               let hf : f < ar.size = R.minus_below (ar.times a (inverse c)) in
               let ha : a < ar.size = em r k hr (omega arith) in
               let hc : c < ar.size = em r j hr (omega arith) in
-              let is : p ≡ r = one_leads p r hp hr (omega arith) (ep ∙ sym er) in
-              let piv : c ≡ 0 → ⊥ = λ z. (e.leads r hr (omega arith)).pivot (ap (entry m r) er ∙ z) in
+              let is : p ≡ r = one_leads p r j hp hr ep er in
+              let piv : c ≡ 0 → ⊥ = (e.led r j hr er).pivot in
               ap (λ (v : ℕ). ar.plus (ar.times (entry m v j) f) (entry m v k)) is
               ∙ ap (λ (v : ℕ). ar.plus v a) (R.times_comm c f hc hf) ∙ R.plus_comm (ar.times f c) a (R.times_below f c) ha
               ∙ algebra.cleared R I a c ha hc piv
@@ -157,34 +168,33 @@ module _ {ar : Arithmetic} (R : Ring ar) where
       hidden_below : Below ar.size 6 hidden
       hidden_below j h = (hidden_is j).value_below
 
-      lost : ((i : ℕ) → i < 6 → 6 ≤ get_or lead i 0 → entry m i k ≡ 0) → (i : ℕ) → i < 6 → dot ar 6 (entry m i) hidden ≡ 0
+      lost : NoPivot m leads k → (i : ℕ) → i < 6 → dot ar 6 (entry m i) hidden ≡ 0
       lost z i hi =
-          elim (cases_lt (get_or lead i 0) 6) [
-            | inl h ↦
-                let l : ℕ = get_or lead i 0 in
-                let at : Leads k m i l = e.leads i hi h in
+          elim (leads_or_free (get_or leads i None)) [
+            | inl w ↦
+                let l : ℕ = w.0 in
+                let at : Leads k m i l = e.led i l hi w.1 in
                 let one : hidden k ≡ 1 = (hidden_is k).value_own refl in
                 let at_k : ar.times (entry m i k) (hidden k) ≡ entry m i k = ap (ar.times (entry m i k)) one ∙ R.times_one (entry m i k) (em i k hi (omega arith)) in
                 algebra.sum_two R 6 l k (λ j. ar.times (entry m i j) (hidden j)) at.within hk at.apart (λ j b. R.times_below (entry m i j) (hidden j))
-                (λ j hj nl nk. elsewhere j hj nl nk)
-                ∙ ap (ar.plus (ar.times (entry m i l) (hidden l))) at_k ∙ (hidden_is l).value_led i hi refl at.within at.apart
+                (λ j hj nl nk. elsewhere l w.1 j hj nl nk)
+                ∙ ap (ar.plus (ar.times (entry m i l) (hidden l))) at_k ∙ (hidden_is l).value_led i hi w.1 at.within at.apart
             | inr un ↦
                 algebra.dot_zero_left R 6 (entry m i) hidden hidden_below
                 (λ j hj. elim (cases_eq j k) [ inl own ↦ ap (entry m i) own ∙ z i hi un | inr ne ↦ e.clear j hj ne i hi un ])
           ]
         where
-          elsewhere : (j : ℕ) → j < 6 → (j ≡ get_or lead i 0 → ⊥) → (j ≡ k → ⊥) → ar.times (entry m i j) (hidden j) ≡ 0
-          elsewhere j hj nl nk =
-              elim (leader (λ p. get_or lead p 0) 6 j) [
+          elsewhere : (l : ℕ) → get_or leads i None ≡ Some l → (j : ℕ) → j < 6 → (j ≡ l → ⊥) → (j ≡ k → ⊥) → ar.times (entry m i j) (hidden j) ≡ 0
+          elsewhere l is_l j hj nl nk =
+              elim (leader (λ p. get_or leads p None) 6 j) [
                 | inl w ↦
-                    let small : get_or lead w.0 0 < 6 = omega (arith, w.2) in
-                    let ne : i ≡ w.0 → ⊥ = λ is. nl (sym (ap (λ (v : ℕ). get_or lead v 0) is ∙ w.2)) in
-                    ap (λ (v : ℕ). ar.times v (hidden j)) (ap (entry m i) (sym w.2) ∙ (e.leads w.0 w.1 small).others i hi ne)
+                    let ne : i ≡ w.0 → ⊥ = λ is. nl (same_Some j l (sym w.2 ∙ ap (λ (v : ℕ). get_or leads v None) (sym is) ∙ is_l)) in
+                    ap (λ (v : ℕ). ar.times v (hidden j)) ((e.led w.0 j w.1 w.2).others i hi ne)
                     ∙ algebra.zero_times R (hidden j) (hidden_below j hj)
                 | inr none ↦ ap (ar.times (entry m i j)) ((hidden_is j).value_free none nk) ∙ algebra.times_zero R (entry m i j) (em i j hi (omega arith))
               ]
 
-      pub undetermined : ((i : ℕ) → i < 6 → 6 ≤ get_or lead i 0 → entry m i k ≡ 0) → Determines ar rows k → ⊥
+      pub undetermined : NoPivot m leads k → Determines ar rows k → ⊥
       undetermined z determined =
           let none : ℕ → ℕ = λ j. 0 in
           let none_below : Below ar.size 6 none = λ j h. algebra.zero_below R in

@@ -1,5 +1,6 @@
 pub mod Widening
 pub mod Clearing
+pub mod Pivots
 pub mod Steps
 pub mod Reducing
 pub mod Decides

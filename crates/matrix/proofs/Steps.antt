@@ -1,11 +1,12 @@
 -- What a step of the elimination keeps. Assumes nothing.
-use Rattle.std.proofs.Common.{◌≡◌, ℕ, ◌+◌, ◌<◌, ◌≤◌, List, length, get_or, set, sym, ap, ◌∙◌, subst, ap₂, inl, inr, arith, get_or-set_other, get_or-set_same}
+use Rattle.std.proofs.Common.{◌≡◌, ℕ, ◌+◌, ◌<◌, List, length, get_or, set, None, Some, Option, sym, ap, ◌∙◌, subst, ap₂, inl, inr, arith, get_or-set_other, get_or-set_same}
 use Rattle.std.proofs.lemmas.Bool.{cases_eq}
+use Rattle.std.proofs.lemmas.Option.{none-some, same_Some}
 use Rattle.field.specs.Arithmetic.{Arithmetic}
 use Rattle.field.specs.Laws.{Ring, Inverses}
 use Rattle.field.specs.Sums.{dot, Below}
 use Rattle.matrix.specs.Matrices.{entry}
-use Rattle.matrix.specs.Elimination.{Elements, Cleared, Leads, Echelon, Kept}
+use Rattle.matrix.specs.Elimination.{Elements, Cleared, Free, IsPivot, NoPivot, Leads, Echelon, Kept}
 use Rattle.field.proofs.Algebra as algebra
 
 pub kept_none : (ar : Arithmetic) (m : List (List ℕ)) → Kept ar m m
@@ -91,34 +92,35 @@ module _ {ar : Arithmetic} (R : Ring ar) where
     column_clear m n p c hp hc em cl piv i hi ne =
         cl.others i hi ne c hc ∙ algebra.cleared R I (entry m i c) (entry m p c) (em i c hi hc) (em p c hp hc) piv
 
-    pub echelon_more : (k : ℕ) (m n : List (List ℕ)) (lead : List ℕ) (p c : ℕ) → length lead ≡ 6 → p < 6 → c < 6 → (c ≡ k → ⊥)
-        → Elements ar.size m → Cleared ar (clearing m p c) m n p → 6 ≤ get_or lead p 0 → (entry m p c ≡ 0 → ⊥)
-        → Echelon k m lead c → Echelon k n (set lead p c) (c + 1)
-    echelon_more k m n lead p c len hp hc apart em cl free piv e = record { leads = new_leads; clear = new_clear }
+    pub echelon_more : (k : ℕ) (m n : List (List ℕ)) (leads : List (Option ℕ)) (p c : ℕ) → length leads ≡ 6 → c < 6 → (c ≡ k → ⊥)
+        → Elements ar.size m → Cleared ar (clearing m p c) m n p → IsPivot m leads c p → Echelon k m leads c → Echelon k n (set leads p (Some c)) (c + 1)
+    echelon_more k m n leads p c len hc apart em cl found e = record { led = new_led; clear = new_clear }
       where
+        hp : p < 6
+        hp = found.within
+
         factors : (i : ℕ) → clearing m p c i < ar.size
         factors i = R.minus_below (ar.times (entry m i c) (inverse (entry m p c)))
 
-        here : get_or (set lead p c) p 0 ≡ c
-        here = get_or-set_same lead p c 0 (omega arith)
+        here : get_or (set leads p (Some c)) p None ≡ Some c
+        here = get_or-set_same leads p (Some c) None (omega arith)
 
-        there : (i : ℕ) → (i ≡ p → ⊥) → get_or (set lead p c) i 0 ≡ get_or lead i 0
-        there i ne = get_or-set_other lead p i c 0 ne
+        there : (i : ℕ) → (i ≡ p → ⊥) → get_or (set leads p (Some c)) i None ≡ get_or leads i None
+        there i ne = get_or-set_other leads p i (Some c) None ne
 
         at_p : Leads k n p c
         at_p = record {
           within = hc;
           apart = apart;
-          pivot = λ z. piv (sym (cl.same c) ∙ z);
-          others = column_clear m n p c hp (omega arith) em cl piv;
+          pivot = λ z. found.pivot (sym (cl.same c) ∙ z);
+          others = column_clear m n p c hp (omega arith) em cl found.pivot;
         }
 
-        elsewhere : (r : ℕ) → r < 6 → (r ≡ p → ⊥) → get_or lead r 0 < 6 → Leads k n r (get_or lead r 0)
-        elsewhere r hr ne h =
-            let old : Leads k m r (get_or lead r 0) = e.leads r hr h in
-            let zero_there : entry m p (get_or lead r 0) ≡ 0 = old.others p hp (λ is. ne (sym is)) in
-            let same : (i : ℕ) → i < 6 → entry n i (get_or lead r 0) ≡ entry m i (get_or lead r 0) =
-            column_same (clearing m p c) factors m n p (get_or lead r 0) hp (omega arith) em cl zero_there in
+        elsewhere : (r l : ℕ) → r < 6 → (r ≡ p → ⊥) → get_or leads r None ≡ Some l → Leads k n r l
+        elsewhere r l hr ne h =
+            let old : Leads k m r l = e.led r l hr h in
+            let zero_there : entry m p l ≡ 0 = old.others p hp (λ is. ne (sym is)) in
+            let same : (i : ℕ) → i < 6 → entry n i l ≡ entry m i l = column_same (clearing m p c) factors m n p l hp (omega (arith, old.within)) em cl zero_there in
             record {
               within = old.within;
               apart = old.apart;
@@ -126,44 +128,42 @@ module _ {ar : Arithmetic} (R : Ring ar) where
               others = λ i hi d. same i hi ∙ old.others i hi d;
             }
 
-        new_leads : (r : ℕ) → r < 6 → get_or (set lead p c) r 0 < 6 → Leads k n r (get_or (set lead p c) r 0)
-        new_leads r hr h =
+        new_led : (r l : ℕ) → r < 6 → get_or (set leads p (Some c)) r None ≡ Some l → Leads k n r l
+        new_led r l hr h =
             elim (cases_eq r p) [
-              | inl is ↦ subst (λ (v : ℕ). Leads k n v (get_or (set lead p c) v 0)) (sym is) (subst (λ (l : ℕ). Leads k n p l) (sym here) at_p)
-              | inr ne ↦ subst (λ (l : ℕ). Leads k n r l) (sym (there r ne)) (elsewhere r hr ne (subst (λ (l : ℕ). l < 6) (there r ne) h))
-            ]
-
-        new_clear : (j : ℕ) → j < c + 1 → (j ≡ k → ⊥) → (i : ℕ) → i < 6 → 6 ≤ get_or (set lead p c) i 0 → entry n i j ≡ 0
-        new_clear j hj jk i hi un =
-            elim (cases_eq i p) [
               | inl is ↦
-                  let at : get_or (set lead p c) i 0 ≡ c = ap (λ (v : ℕ). get_or (set lead p c) v 0) is ∙ here in
-                  absurd (omega arith)
-              | inr ne ↦
-                  let un_old : 6 ≤ get_or lead i 0 = subst (λ (l : ℕ). 6 ≤ l) (there i ne) un in
-                  elim (cases_eq j c) [
-                    | inl jc ↦ ap (entry n i) jc ∙ column_clear m n p c hp (omega arith) em cl piv i hi ne
-                    | inr nc ↦
-                        let before : j < c = omega arith in
-                        column_same (clearing m p c) factors m n p j hp (omega arith) em cl (e.clear j before jk p hp free) i hi
-                        ∙ e.clear j before jk i hi un_old
-                  ]
+                  let own : c ≡ l = same_Some c l (sym here ∙ ap (λ (v : ℕ). get_or (set leads p (Some c)) v None) (sym is) ∙ h) in
+                  subst (λ (v : ℕ). Leads k n v l) (sym is) (subst (λ (v : ℕ). Leads k n p v) own at_p)
+              | inr ne ↦ elsewhere r l hr ne (sym (there r ne) ∙ h)
             ]
 
-pub echelon_skip : (k : ℕ) (m : List (List ℕ)) (lead : List ℕ) (c : ℕ) → c ≡ k → Echelon k m lead c → Echelon k m lead (c + 1)
-echelon_skip k m lead c is e = record {
-  leads = e.leads;
-  clear = λ j hj jk i hi un.
+        new_clear : (j : ℕ) → j < c + 1 → (j ≡ k → ⊥) → (i : ℕ) → i < 6 → Free (set leads p (Some c)) i → entry n i j ≡ 0
+        new_clear j hj jk i hi free =
+            elim (cases_eq i p) [
+              | inl is ↦ absurd (none-some c (sym free ∙ ap (λ (v : ℕ). get_or (set leads p (Some c)) v None) is ∙ here))
+              | inr ne ↦ elim (cases_eq j c) [
+                | inl jc ↦ ap (entry n i) jc ∙ column_clear m n p c hp (omega arith) em cl found.pivot i hi ne
+                | inr nc ↦
+                    let before : j < c = omega arith in
+                    column_same (clearing m p c) factors m n p j hp (omega arith) em cl (e.clear j before jk p hp found.free) i hi
+                    ∙ e.clear j before jk i hi (sym (there i ne) ∙ free)
+              ]
+            ]
+
+pub echelon_skip : (k : ℕ) (m : List (List ℕ)) (leads : List (Option ℕ)) (c : ℕ) → c ≡ k → Echelon k m leads c → Echelon k m leads (c + 1)
+echelon_skip k m leads c is e = record {
+  led = e.led;
+  clear = λ j hj jk i hi free.
       let ne : j ≡ c → ⊥ = λ jc. jk (jc ∙ is) in
-      e.clear j (omega arith) jk i hi un;
+      e.clear j (omega arith) jk i hi free;
 }
 
-pub echelon_none : (k : ℕ) (m : List (List ℕ)) (lead : List ℕ) (c : ℕ) → ((i : ℕ) → i < 6 → 6 ≤ get_or lead i 0 → entry m i c ≡ 0) → Echelon k m lead c → Echelon k m lead (c + 1)
-echelon_none k m lead c z e = record {
-  leads = e.leads;
-  clear = λ j hj jk i hi un.
+pub echelon_none : (k : ℕ) (m : List (List ℕ)) (leads : List (Option ℕ)) (c : ℕ) → NoPivot m leads c → Echelon k m leads c → Echelon k m leads (c + 1)
+echelon_none k m leads c none e = record {
+  led = e.led;
+  clear = λ j hj jk i hi free.
       elim (cases_eq j c) [
-        | inl jc ↦ ap (entry m i) jc ∙ z i hi un
-        | inr nc ↦ e.clear j (omega arith) jk i hi un
+        | inl jc ↦ ap (entry m i) jc ∙ none i hi free
+        | inr nc ↦ e.clear j (omega arith) jk i hi free
       ];
 }

@@ -1,6 +1,8 @@
 -- What the steps of the elimination do. A wide matrix has rows of twelve: six coefficients, and the factors by which
 -- the row comes from the six rows at the start. Assumes nothing.
-use Rattle.std.specs.Prelude.{◌≡◌, ℕ, ◌+◌, ◌<◌, ◌≤◌, List, ◌≢◌, slice_index}
+use Rattle.std.specs.Prelude.{◌≡◌, ℕ, ◌+◌, ◌<◌, Bool, not, ◌&&◌, List, None, Some, Option, ◌≢◌, ◌==◌, slice_index_or}
+use Rattle.std.specs.List.{find, range_with_len}
+use Rattle.std.specs.Option.{is_none}
 use Rattle.field.specs.Arithmetic.{Arithmetic}
 use Rattle.field.specs.Sums.{dot, Below}
 use Rattle.matrix.specs.Matrices.{entry}
@@ -28,10 +30,27 @@ pub record Cleared (a : Arithmetic) (factor : ℕ → ℕ) (m n : List (List ℕ
   pub same : (j : ℕ) → entry n p j ≡ entry m p j
   pub others : (i : ℕ) → i < 6 → (i ≢ p) → Added a (factor i) (entry m i) (entry m p) (entry n i)
 
--- the first row that leads no column and is not 0 at c, or 6
-pub record Pivot (m : List (List ℕ)) (lead : List ℕ) (c r : ℕ) : Type 0 where
-  pub found : r < 6 → (6 ≤ slice_index lead r) × (entry m r c ≢ 0)
-  pub none : 6 ≤ r → (i : ℕ) → i < 6 → 6 ≤ slice_index lead i → entry m i c ≡ 0
+-- the row i leads no column
+abbrev pub Free : List (Option ℕ) → ℕ → Type 0
+Free leads i = slice_index_or leads i None ≡ None
+
+-- whether the row i leads no column and is not 0 at c
+abbrev pub is_pivot : List (List ℕ) → List (Option ℕ) → ℕ → ℕ → Bool
+is_pivot m leads c i = is_none (slice_index_or leads i None) && not (entry m i c == 0)
+
+-- the first row that leads no column and is not 0 at c
+abbrev pub pivot : List (List ℕ) → List (Option ℕ) → ℕ → Option ℕ
+pivot m leads c = find (is_pivot m leads c) (range_with_len 0 6)
+
+-- the row p is such a row
+pub record IsPivot (m : List (List ℕ)) (leads : List (Option ℕ)) (c p : ℕ) : Type 0 where
+  pub within : p < 6
+  pub free : Free leads p
+  pub pivot : entry m p c ≢ 0
+
+-- there is no such row
+abbrev pub NoPivot : List (List ℕ) → List (Option ℕ) → ℕ → Type 0
+NoPivot m leads c = (i : ℕ) → i < 6 → Free leads i → entry m i c ≡ 0
 
 -- what the row p is, where it leads the column l: l is no longer in any other row
 pub record Leads (k : ℕ) (m : List (List ℕ)) (p l : ℕ) : Type 0 where
@@ -41,9 +60,9 @@ pub record Leads (k : ℕ) (m : List (List ℕ)) (p l : ℕ) : Type 0 where
   pub others : (i : ℕ) → i < 6 → (i ≢ p) → entry m i l ≡ 0
 
 -- the columns below c but k are done: a row leads each that it could, and the rows that lead none are 0 there
-pub record Echelon (k : ℕ) (m : List (List ℕ)) (lead : List ℕ) (c : ℕ) : Type 0 where
-  pub leads : (p : ℕ) → p < 6 → slice_index lead p < 6 → Leads k m p (slice_index lead p)
-  pub clear : (j : ℕ) → j < c → (j ≢ k) → (i : ℕ) → i < 6 → 6 ≤ slice_index lead i → entry m i j ≡ 0
+pub record Echelon (k : ℕ) (m : List (List ℕ)) (leads : List (Option ℕ)) (c : ℕ) : Type 0 where
+  pub led : (p l : ℕ) → p < 6 → slice_index_or leads p None ≡ Some l → Leads k m p l
+  pub clear : (j : ℕ) → j < c → (j ≢ k) → NoPivot m leads j
 
 -- The rows of n come from those of m, and the other way round: unknowns of which n's rows make the same are the same to m's rows,
 -- and where the rows of m are combinations of some sums b, by their factors, so are those of n.
@@ -56,7 +75,7 @@ pub record Kept (a : Arithmetic) (m n : List (List ℕ)) : Type 0 where
       → (i : ℕ) → i < 6 → dot a 6 (entry n i) x ≡ dot a 6 (λ s. entry n i (6 + s)) b
 
 -- the end of the elimination for the unknown k: all columns but k are done
-pub record ReducedTo (a : Arithmetic) (k : ℕ) (start rows : List (List ℕ)) (lead : List ℕ) : Type 0 where
+pub record ReducedTo (a : Arithmetic) (k : ℕ) (start rows : List (List ℕ)) (leads : List (Option ℕ)) : Type 0 where
   pub elements : Elements a.size rows
   pub kept : Kept a start rows
-  pub echelon : Echelon k rows lead 6
+  pub echelon : Echelon k rows leads 6

@@ -1,7 +1,7 @@
 -- The ranges of a message's parts, as tests. Assumes nothing.
 use Rattle.std.specs.Prelude.{ℕ, Bool, ◌&&◌, ◌||◌, List, length, ◌==◌, nat_le}
 use Rattle.terms.specs.Limits.{min_servers, max_servers, last_server, min_objects, max_objects, last_object, min_cells, max_cells, max_height, max_count, max_read}
-use Rattle.terms.specs.Lists.{each}
+use Rattle.std.specs.List.{list_all}
 use Rattle.message.specs.declared.tag.Tag.{Tag}
 use Rattle.message.specs.Meanings.{Meaning, write_notice, tag_notice, question, plain_reply, coded_reply}
 
@@ -35,10 +35,10 @@ abbrev pub cells_ok : List ℕ → Bool
 cells_ok cells = between min_cells max_cells (length cells)
 
 abbrev pub clock_ok : List ℕ → Bool
-clock_ok clock = between min_servers max_servers (length clock) && each count_ok clock
+clock_ok clock = between min_servers max_servers (length clock) && list_all count_ok clock
 
 abbrev pub tags_ok : List Tag → Bool
-tags_ok tags = between min_objects max_objects (length tags) && each tag_ok tags
+tags_ok tags = between min_objects max_objects (length tags) && list_all tag_ok tags
 
 -- the whole message
 abbrev pub in_range : Meaning → Bool

@@ -1,7 +1,7 @@
 // Whether a message is within its ranges.
 ghost use Rattle.std.specs.Prelude.{◌≡◌, Bool};
 ghost use Rattle.terms.specs.Items.{items};
-ghost use Rattle.terms.specs.Lists.{each};
+ghost use Rattle.std.specs.List.{list_all};
 ghost use Rattle.message.specs.Meanings.{meaning};
 ghost use Rattle.message.specs.Ranges.{between, count_ok, tag_ok, cells_ok, clock_ok, tags_ok, in_range};
 
@@ -10,47 +10,11 @@ use crate::tag::Tag;
 use terms::bounded::Cells;
 use terms::limits::*;
 
-// An item of a list that has a range of its own.
-trait Ranged {
-    ghost ranged: { Self → Bool };
-
-    fn is_in_range(&self) -> bool
-        ensures decided { result ≡ ranged self.now };
-}
-
-// A count of a clock.
-impl Ranged for u32 {
-    ghost ranged = { count_ok };
-
-    fn is_in_range(&self) -> bool {
-        *self <= MAX_COUNT
-    }
-}
-
-impl Ranged for Tag {
-    ghost ranged = { tag_ok };
-
-    fn is_in_range(&self) -> bool {
-        tag_is_in_range(*self)
-    }
-}
-
-fn each_in_range<T: Ranged>(items: &[T]) -> bool
-    ensures decided { result ≡ each T.Ranged.ranged items.now }
-{
-    for x in items {
-        if !x.is_in_range() {
-            return false;
-        }
-    }
-    true
-}
-
 // Whether a number is from `low` to `high`.
 pub fn is_between(low: u32, high: u32, n: u32) -> bool
     ensures decided { result ≡ between low high n }
 {
-    low <= n && n <= high
+    (low..=high).contains(&n)
 }
 
 pub fn tag_is_in_range(t: Tag) -> bool
@@ -62,19 +26,31 @@ pub fn tag_is_in_range(t: Tag) -> bool
 fn cells_are_in_range(cells: &Cells) -> bool
     ensures decided { result ≡ cells_ok (items cells.now) }
 {
-    cells.len() >= MIN_CELLS && cells.len() <= MAX_CELLS
+    (MIN_CELLS..=MAX_CELLS).contains(&cells.len())
+}
+
+fn counts_are_in_range(counts: &[u32]) -> bool
+    ensures decided { result ≡ list_all count_ok counts.now }
+{
+    counts.iter().all(|count| *count <= MAX_COUNT)
 }
 
 pub fn clock_is_in_range(clock: &Clock) -> bool
     ensures decided { result ≡ clock_ok (items clock.now) }
 {
-    clock.len() >= MIN_SERVERS && clock.len() <= MAX_SERVERS && each_in_range(clock.as_slice())
+    (MIN_SERVERS..=MAX_SERVERS).contains(&clock.len()) && counts_are_in_range(clock.as_slice())
+}
+
+fn all_in_range(tags: &[Tag]) -> bool
+    ensures decided { result ≡ list_all tag_ok tags.now }
+{
+    tags.iter().all(|tag| tag_is_in_range(*tag))
 }
 
 pub fn tags_are_in_range(tags: &Tags) -> bool
     ensures decided { result ≡ tags_ok (items tags.now) }
 {
-    tags.len() >= MIN_OBJECTS && tags.len() <= MAX_OBJECTS && each_in_range(tags.as_slice())
+    (MIN_OBJECTS..=MAX_OBJECTS).contains(&tags.len()) && all_in_range(tags.as_slice())
 }
 
 impl Message {

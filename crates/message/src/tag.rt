@@ -2,7 +2,7 @@
 ghost use Rattle.std.specs.Prelude.{◌≡◌};
 ghost use Rattle.message.specs.Tags.{lower, same, zero_tag};
 
-#[derive(Clone, Copy, Debug)]
+#[derive(Clone, Copy, PartialEq, Eq, PartialOrd, Ord, Debug)]
 pub struct Tag {
     pub height: u32,
     pub server: u32,
@@ -22,12 +22,12 @@ impl Tag {
     pub fn is_lower_than(self, other: Tag) -> bool
         ensures by_height_then_server { result ≡ lower self other }
     {
-        self.height < other.height || self.height == other.height && self.server < other.server
+        self < other
     }
 
     pub fn equals(self, other: Tag) -> bool
         ensures same_height_and_server { result ≡ same self other }
     {
-        self.height == other.height && self.server == other.server
+        self == other
     }
 }

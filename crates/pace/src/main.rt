@@ -6,7 +6,7 @@ mod carrying;
 mod notices;
 
 use std::env;
-use std::time::{Duration, Instant};
+use std::time::Instant;
 
 fn main(rt: HostRuntime) -> anyhow::Result<()> {
     run(&rt)
@@ -19,69 +19,43 @@ fn run(rt: &HostRuntime) -> anyhow::Result<()> {
 }
 
 fn wants_times(rt: &HostRuntime) -> anyhow::Result<bool> {
-    let mut wanted = false;
-    for word in env::args(rt)? {
-        if word.as_str() == "times" {
-            wanted = true;
-        }
-    }
-    Ok(wanted)
+    Ok(env::args(rt)?.any(|word| word.as_str() == "times"))
 }
 
 fn bytes(rt: &HostRuntime, times: bool) -> anyhow::Result<()> {
-    let start = Instant::now(rt)?;
-    let written = notices::write_all()?;
-    told(
-        rt,
-        times,
-        "write notices of 16 cells written, sum",
-        written,
-        start.elapsed(rt)?,
-    )?;
-    let start = Instant::now(rt)?;
-    let read = notices::read_all()?;
-    told(
-        rt,
-        times,
-        "write notices of 16 cells read, sum",
-        read,
-        start.elapsed(rt)?,
-    )
+    timed(rt, times, "write notices of 16 cells written, sum", || {
+        notices::write_all()
+    })?;
+    timed(rt, times, "write notices of 16 cells read, sum", || {
+        notices::read_all()
+    })
 }
 
 fn lanes(rt: &HostRuntime, times: bool) -> anyhow::Result<()> {
     for n in [2, 6] {
         println!(rt; "a carrier of {n} servers")?;
-        let start = Instant::now(rt)?;
-        let carried = carrying::records(rt.alloc(), n)?;
-        told(
-            rt,
-            times,
-            "messages posted and taken as records",
-            carried,
-            start.elapsed(rt)?,
-        )?;
-        let start = Instant::now(rt)?;
-        let carried = carrying::bytes(rt.alloc(), n)?;
-        told(
-            rt,
-            times,
-            "messages posted and taken as bytes",
-            carried,
-            start.elapsed(rt)?,
-        )?;
+        timed(rt, times, "messages posted and taken as records", || {
+            carrying::records(rt.alloc(), n)
+        })?;
+        timed(rt, times, "messages posted and taken as bytes", || {
+            carrying::bytes(rt.alloc(), n)
+        })?;
     }
     Ok(())
 }
 
-// A count, and the time of one operation where that is wanted.
-fn told(
+// Does the work, and prints its count; also the time of one operation where that is wanted.
+fn timed<F: FnOnce() -> anyhow::Result<u64>>(
     rt: &HostRuntime,
     times: bool,
     what: &str,
-    count: u64,
-    took: Duration,
-) -> anyhow::Result<()> {
+    work: F,
+) -> anyhow::Result<()>
+    requires { F.IsAlwaysCallable work }
+{
+    let start = Instant::now(rt)?;
+    let count = work()?;
+    let took = start.elapsed(rt)?;
     println!(rt; "{what}: {count}")?;
     if times {
         let each = took.as_nanos() / u128::from(notices::TURNS);

@@ -1,7 +1,8 @@
 // The longest write notice, written and read again and again.
+use anyhow::bail;
 use message::kinds::{Clock, Message};
 use terms::bounded::Cells;
-use terms::limits::*;
+use terms::limits::{MAX_CELLS, MAX_RECORD_BYTES, MAX_SERVERS};
 use wire::read::read_message;
 use wire::write::write_message;
 
@@ -12,19 +13,11 @@ const HEIGHT: usize = 35;
 
 // A write notice of 16 cells and 6 counts.
 pub fn notice(height: u32) -> Message {
-    let value = match Cells::from_slice(0, &[7; MAX_CELLS]) {
-        Some(cells) => cells,
-        None => Cells::new(0),
-    };
-    let clock = match Clock::from_slice(0, &[9; MAX_SERVERS]) {
-        Some(counts) => counts,
-        None => Clock::new(0),
-    };
     Message::WriteNotice {
         object: 0,
-        value,
+        value: Cells::from_slice(0, &[7; MAX_CELLS]).unwrap(),
         height,
-        clock,
+        clock: Clock::from_slice(0, &[9; MAX_SERVERS]).unwrap(),
     }
 }
 
@@ -67,17 +60,16 @@ pub fn read_all() -> anyhow::Result<u64> {
     let mut sum = 0u64;
     for i in 0..TURNS {
         place[HEIGHT] = (1 + i % 200) as u8;
-        sum = sum.wrapping_add(told(&place));
+        sum = sum.wrapping_add(height_and_bytes(&place)?);
     }
     Ok(sum)
 }
 
-fn told(place: &[u8]) -> u64 {
-    match read_message(place) {
-        Ok(got) => match got.0 {
-            Message::WriteNotice { height, .. } => u64::from(height).wrapping_add(got.1 as u64),
-            _ => 0,
-        },
-        Err(_) => 0,
+// The height of the notice and the number of bytes that it takes, summed up.
+fn height_and_bytes(place: &[u8]) -> anyhow::Result<u64> {
+    let (m, used) = read_message(place)?;
+    match m {
+        Message::WriteNotice { height, .. } => Ok(u64::from(height).wrapping_add(used as u64)),
+        _ => bail!("not a write notice"),
     }
 }

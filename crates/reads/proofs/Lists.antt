@@ -3,12 +3,12 @@ use Rattle.std.proofs.Common.{◌≡◌, ℕ, zero, suc, ◌<◌, Bool, true, fa
 use Rattle.std.proofs.lemmas.List.{get_or-map, map-append}
 
 module _ {A B : Type 0} (f : A → B) where
-  map_take : (i : ℕ) (xs : List A) → map f (take i xs) ≡ take i (map f xs)
+  pub map_take : (i : ℕ) (xs : List A) → map f (take i xs) ≡ take i (map f xs)
   map_take zero xs = refl
   map_take (suc i) [] = refl
   map_take (suc i) (x ∷ xs) = ap (λ ys. f x ∷ ys) (map_take i xs)
 
-  map_drop : (i : ℕ) (xs : List A) → map f (drop i xs) ≡ drop i (map f xs)
+  pub map_drop : (i : ℕ) (xs : List A) → map f (drop i xs) ≡ drop i (map f xs)
   map_drop zero xs = refl
   map_drop (suc i) [] = refl
   map_drop (suc i) (x ∷ xs) = map_drop i xs

@@ -1,37 +1,19 @@
 -- Laws of the rules' small words. Assumes nothing.
-use Rattle.std.proofs.Common.{◌≡◌, ℕ, zero, suc, ◌+◌, ◌-◌, ◌<◌, Bool, true, false, cond, ◌&&◌, ◌||◌, eqb, ltb, List, [], length, get_or, set, replicate, Some, None, sym, refl, ap, ◌∙◌, subst, ap₂, inl, inr, add-one, arith, get_or-set_other, get_or-set_same}
+use Rattle.std.proofs.Common.{◌≡◌, ℕ, zero, suc, ◌+◌, ◌-◌, ◌<◌, ◌≤◌, Bool, true, false, cond, ◌||◌, eqb, ltb, List, [], ◌∷◌, ◌++◌, map, length, get_or, take, drop, set, replicate, Some, None, sym, refl, ap, ◌∙◌, subst, ap₂, inl, inr, add-one, zero-add, arith, get_or-set_other, get_or-set_same}
 use mathlib.Core.Path.{fun_ext}
+use Rattle.std.specs.List.{list_any, position, position_or_len, range_with_len}
+use Rattle.std.proofs.lemmas.List.{take_all, length-map, length-take-le, get_or-map, get_or-take, get_or-drop, get_or_append_left, get_or-append_right}
+use Rattle.std.proofs.lemmas.List.Folds.{list_any_more}
+use Rattle.std.proofs.lemmas.List.FromFn.{length-range_with_len, get_or-range_with_len}
+use Rattle.std.proofs.lemmas.List.Sums.{fails_before_first, passes_at_first}
 use Rattle.std.proofs.lemmas.Bool.{cases_eq, cases_lt, eq-eqb, ne_eqb, lt-ltb, le-ltb}
-use Rattle.rules.specs.Words.{upd, every, some, first_below, or_else}
-
-pub every_none : (f : ℕ → Bool) → every 0 f ≡ true
-unfolding every
-every_none f = refl
-
-pub every_more : (n : ℕ) (f : ℕ → Bool) → every (n + 1) f ≡ (every n f && f n)
-unfolding every
-every_more n f = ap (λ (m : ℕ). every m f) (add-one n)
-
-pub some_none : (f : ℕ → Bool) → some 0 f ≡ false
-unfolding some
-some_none f = refl
-
-pub some_more : (n : ℕ) (f : ℕ → Bool) → some (n + 1) f ≡ (some n f || f n)
-unfolding some
-some_more n f = ap (λ (m : ℕ). some m f) (add-one n)
+use Rattle.rules.specs.Words.{upd, some, first_below, or_else}
 
 -- ---- the first number that passes
-
-pub first_none : (f : ℕ → Bool) → first_below 0 f ≡ None
-unfolding first_below
-first_none f = refl
 
 first_more : (n : ℕ) (f : ℕ → Bool) → first_below (n + 1) f ≡ or_else (first_below n f) (cond (f n) (Some n) None)
 unfolding first_below
 first_more n f = ap (λ (m : ℕ). first_below m f) (add-one n)
-
-pub first_fails : (n : ℕ) (f : ℕ → Bool) → first_below n f ≡ None → f n ≡ false → first_below (n + 1) f ≡ None
-first_fails n f none fails = first_more n f ∙ ap₂ (λ o b. or_else o (cond b (Some n) None)) none fails
 
 first_stays : (n i k : ℕ) (f : ℕ → Bool) → first_below n f ≡ Some i → first_below (n + k) f ≡ Some i
 unfolding first_below
@@ -46,6 +28,43 @@ first_passes n i f none passes h =
     let k = n - (i + 1) in
     let far : n ≡ i + 1 + k = omega arith in
     ap (λ (m : ℕ). first_below m f) far ∙ first_stays (i + 1) i k f at
+
+pub first_all_fail : (n : ℕ) (f : ℕ → Bool) → ((k : ℕ) → k < n → f k ≡ false) → first_below n f ≡ None
+unfolding first_below
+first_all_fail zero f fails = refl
+first_all_fail (suc n) f fails = ap₂ (λ o b. or_else o (cond b (Some n) None)) (first_all_fail n f (λ k h. fails k (omega arith))) (fails n (omega arith))
+
+-- the first number below n that passes, as the library has it
+pub position_first : (n : ℕ) (f : ℕ → Bool) → position f (range_with_len 0 n) ≡ first_below n f
+position_first n f =
+    let xs = range_with_len 0 n in
+    let i = position_or_len f xs in
+    let long : length xs ≡ n = length-range_with_len 0 n in
+    let at : (k : ℕ) → k < n → get_or xs k 0 ≡ k = λ k h. get_or-range_with_len 0 n k 0 h ∙ zero-add k in
+    elim (cases_lt i (length xs)) [
+      | inl lt ↦
+          let below : i < n = omega arith in
+          let passes : f i ≡ true = ap f (sym (at i below)) ∙ passes_at_first f xs 0 lt in
+          let fails : (k : ℕ) → k < i → f k ≡ false = λ k h. ap f (sym (at k (omega arith))) ∙ fails_before_first f xs k 0 h in
+          ap (λ b. cond b (Some i) None) (lt-ltb i (length xs) lt) ∙ sym (first_passes n i f (first_all_fail i f fails) passes below)
+      | inr past ↦
+          let fails : (k : ℕ) → k < n → f k ≡ false = λ k h. ap f (sym (at k h)) ∙ fails_before_first f xs k 0 (omega arith) in
+          ap (λ b. cond b (Some i) None) (le-ltb i (length xs) past) ∙ sym (first_all_fail n f fails)
+    ]
+
+-- some item passes, of the first n and of all
+some_taken : {A : Type 0} (p : A → Bool) (xs : List A) (d : A) (n : ℕ) → n ≤ length xs → some n (λ i. p (get_or xs i d)) ≡ list_any p (take n xs)
+unfolding some
+some_taken p xs d zero h = refl
+some_taken p xs d (suc n) h =
+    ap (λ b. b || p (get_or xs n d)) (some_taken p xs d n (omega arith)) ∙ sym (list_any_more p xs n d (omega arith)) ∙ ap (λ (m : ℕ). list_any p (take m xs)) (add-one n)
+
+pub any_map : {A B : Type 0} (p : B → Bool) (f : A → B) (xs : List A) → list_any (λ x. p (f x)) xs ≡ list_any p (map f xs)
+any_map p f [] = refl
+any_map p f (x ∷ xs) = ap (λ b. p (f x) || b) (any_map p f xs)
+
+pub some_listed : {A : Type 0} (p : A → Bool) (xs : List A) (d : A) (n : ℕ) → length xs ≡ n → list_any p xs ≡ some n (λ i. p (get_or xs i d))
+some_listed p xs d n long = ap (list_any p) (sym (take_all n xs (omega arith))) ∙ sym (some_taken p xs d n (omega arith))
 
 -- ---- a function changed at one place
 
@@ -69,24 +88,21 @@ get_or_upd xs i v d lt =
 abbrev pub turned_below : {A : Type 0} → (A → A) → (ℕ → A) → ℕ → ℕ → A
 turned_below g f i k = cond (ltb k i) (g (f k)) (f k)
 
-pub turned_none : {A : Type 0} (g : A → A) (f : ℕ → A) → f ≡ turned_below g f 0
-turned_none g f = fun_ext (λ k. ap (λ b. cond b (g (f k)) (f k)) (sym (le-ltb k 0 (omega arith))))
-
-turned_at : {A : Type 0} (g : A → A) (f : ℕ → A) (i k : ℕ) → upd (turned_below g f i) i (g (turned_below g f i i)) k ≡ turned_below g f (i + 1) k
-turned_at g f i k =
-    elim (cases_eq k i) [
-      | inl e ↦
-          ap (upd (turned_below g f i) i (g (turned_below g f i i))) e ∙ upd_same (turned_below g f i) i (g (turned_below g f i i))
-          ∙ ap (λ b. g (cond b (g (f i)) (f i))) (le-ltb i i (omega arith)) ∙ ap (λ b. cond b (g (f i)) (f i)) (sym (lt-ltb i (i + 1) (omega arith)))
-          ∙ ap (turned_below g f (i + 1)) (sym e)
-      | inr ne ↦ upd_other (turned_below g f i) i k (g (turned_below g f i i)) ne ∙ ap (λ b. cond b (g (f k)) (f k)) (below_but k i ne)
-    ]
-  where
-    below_but : (k i : ℕ) → (k ≡ i → ⊥) → ltb k i ≡ ltb k (i + 1)
-    below_but k i ne = elim (cases_lt k i) [ inl h ↦ lt-ltb k i h ∙ sym (lt-ltb k (i + 1) (omega arith)) | inr h ↦ le-ltb k i h ∙ sym (le-ltb k (i + 1) (omega (arith, ne))) ]
-
-pub turned_more : {A : Type 0} (g : A → A) (f now : ℕ → A) (i : ℕ) → now ≡ turned_below g f i → upd now i (g (now i)) ≡ turned_below g f (i + 1)
-turned_more g f now i e = ap (λ h. upd h i (g (h i))) e ∙ fun_ext (turned_at g f i)
+-- a list whose first n items are turned, as a function of the place
+pub turned_front : {A : Type 0} (g : A → A) (xs : List A) (n : ℕ) (d : A) → n ≤ length xs
+    → (λ (k : ℕ). get_or (map g (take n xs) ++ drop n xs) k d) ≡ turned_below g (λ (k : ℕ). get_or xs k d) n
+turned_front g xs n d within =
+    let front = map g (take n xs) in
+    let long : length front ≡ n = length-map (take n xs) g ∙ length-take-le n xs within in
+    fun_ext (λ k. elim (cases_lt k n) [
+      | inl h ↦
+          get_or_append_left front (drop n xs) d k (omega arith) ∙ get_or-map g (take n xs) k d d (omega (arith, length-take-le n xs within)) ∙ ap g (get_or-take n xs k d h)
+          ∙ ap (λ b. cond b (g (get_or xs k d)) (get_or xs k d)) (sym (lt-ltb k n h))
+      | inr h ↦
+          let back : n + (k - n) ≡ k = omega arith in
+          get_or-append_right front (drop n xs) n k d long h ∙ get_or-drop n xs (k - n) d ∙ ap (λ (m : ℕ). get_or xs m d) back
+          ∙ ap (λ b. cond b (g (get_or xs k d)) (get_or xs k d)) (sym (le-ltb k n h))
+    ])
 
 -- what is seen of a function changed at one place
 pub upd_seen : {A B : Type 0} (see : A → B) (f : ℕ → A) (i : ℕ) (v : A) → (λ (k : ℕ). see (upd f i v k)) ≡ upd (λ (k : ℕ). see (f k)) i (see v)

@@ -1,10 +1,9 @@
 // The reads of a server: its places, each free, open or answered.
-ghost use Rattle.std.specs.Prelude.{◌≡◌, ℕ, true, length, vec_len, slice_index_or};
+ghost use Rattle.std.specs.Prelude.{◌≡◌, length, vec_len};
 ghost use Rattle.terms.specs.Limits.{max_servers, max_objects};
-ghost use Rattle.message.specs.Ranges.{tag_ok};
-ghost use Rattle.message.specs.Tags.{zero_tag};
 ghost use Rattle.rules.specs.State.{all_reads};
 
+use crate::ways::Way;
 use message::tag::Tag;
 use terms::bounded::Cells;
 use terms::limits::{MAX_OBJECTS, MAX_SERVERS};
@@ -25,7 +24,6 @@ pub struct Asking {
     pub symbols: [Cells; MAX_SERVERS],
     ghost tag_each: { length tags ≡ max_objects },
     ghost symbol_each: { length symbols ≡ max_servers },
-    ghost tags_in_range: { (x : ℕ) → tag_ok (slice_index_or tags x zero_tag) ≡ true },
 }
 
 // An answered read that is not collected yet.
@@ -34,7 +32,7 @@ pub struct Given {
     pub number: u32,
     pub value: Cells,
     pub tag: Tag,
-    pub way: u8,
+    pub way: Way,
 }
 
 #[derive(Clone, Copy)]
@@ -58,16 +56,6 @@ pub enum Event {
     },
     // The client takes the answer.
     Collected,
-}
-
-// What is looked for among the reads.
-#[derive(Clone, Copy)]
-pub enum Sought {
-    Free,
-    // A read that is not collected yet, by its number.
-    Numbered(u32),
-    // An open read, by its number.
-    OpenAs(u32),
 }
 
 // The clients' places, and behind them one for the internal read of each object.

@@ -1,4 +1,5 @@
 pub mod Answering
+pub mod Elements
 pub mod Hands
 pub mod Mended
 pub mod Messages

@@ -9,7 +9,7 @@ use Rattle.code.specs.Codings.{Coding}
 use Rattle.rules.specs.Delivering.{fits, fits_group}
 use Rattle.rules.specs.State.{Layout, Server}
 use Rattle.rules.specs.Turns.{Outcome, Refused, check}
-use Rattle.server_split.specs.Steps.{laid}
+use Rattle.server.specs.Steps.{laid}
 use Rattle.steps.specs.Local.{Local, local, refused_or}
 use Rattle.steps.specs.Reading.{found_of}
 use Rattle.replies.specs.Receiving.{got_local, deliver_local}

@@ -4,7 +4,7 @@ use Rattle.std.proofs.lemmas.List.{length-take-le}
 use Rattle.std.proofs.lemmas.Bool.{and_parts, cond_both, leb-true}
 use Rattle.terms.specs.Items.{items}
 use Rattle.terms.specs.Limits.{max_count, max_height, max_objects}
-use Rattle.terms.specs.Lists.{each}
+use Rattle.std.specs.List.{list_all}
 use Rattle.terms.specs.declared.bounded.Bounded.{Bounded}
 use Rattle.message.specs.declared.tag.Tag.{Tag}
 use Rattle.message.specs.Meanings.{question, write_notice, tag_notice}
@@ -18,17 +18,17 @@ use Rattle.rules.specs.State.{Layout, Server}
 pub cells_few : (b : Bounded ℕ 16) → length (items b) ≤ 16
 cells_few b = let n = length-take-le b.len b.places (omega (arith, b.fits, b.whole)) in omega (arith, n, b.fits)
 
-each_tag : (ts : List Tag) → each tag_ok ts ≡ true → (y : ℕ) → tag_ok (get_or ts y zero_tag) ≡ true
+each_tag : (ts : List Tag) → list_all tag_ok ts ≡ true → (y : ℕ) → tag_ok (get_or ts y zero_tag) ≡ true
 each_tag [] ok y = refl
-each_tag (t ∷ ts) ok zero = (and_parts (tag_ok t) (each tag_ok ts) ok).0
-each_tag (t ∷ ts) ok (suc y) = each_tag ts (and_parts (tag_ok t) (each tag_ok ts) ok).1 y
+each_tag (t ∷ ts) ok zero = (and_parts (tag_ok t) (list_all tag_ok ts) ok).0
+each_tag (t ∷ ts) ok (suc y) = each_tag ts (and_parts (tag_ok t) (list_all tag_ok ts) ok).1 y
 
 module _ (m x : ℕ) (ts : List Tag) (ok : in_range (question m x ts) ≡ true) where
   pub question_number : read_ok m ≡ true
   question_number = (and_parts (read_ok m) (object_ok x) (and_parts (read_ok m && object_ok x) (tags_ok ts) ok).0).0
 
   pub question_tags : (y : ℕ) → tag_ok (get_or ts y zero_tag) ≡ true
-  question_tags = each_tag ts (and_parts _ (each tag_ok ts) (and_parts (read_ok m && object_ok x) (tags_ok ts) ok).1).1
+  question_tags = each_tag ts (and_parts _ (list_all tag_ok ts) (and_parts (read_ok m && object_ok x) (tags_ok ts) ok).1).1
 
   -- the tags that are stated are own ones, asked ones or zero
   pub stated_ok : (l : Layout) (s : ℕ) (p : Server) → ((y : ℕ) → tag_ok (p.own y) ≡ true) → (y : ℕ) → tag_ok (stated l s p y (get_or ts y zero_tag)) ≡ true
@@ -40,10 +40,10 @@ module _ (m x : ℕ) (ts : List Tag) (ok : in_range (question m x ts) ≡ true) 
 
 -- ---- what a notice within its ranges tells
 
-each_count : (cs : List ℕ) → each count_ok cs ≡ true → (j : ℕ) → get_or cs j 0 ≤ max_count
+each_count : (cs : List ℕ) → list_all count_ok cs ≡ true → (j : ℕ) → get_or cs j 0 ≤ max_count
 each_count [] ok j = omega arith
-each_count (c ∷ cs) ok zero = leb-true c max_count (and_parts (count_ok c) (each count_ok cs) ok).0
-each_count (c ∷ cs) ok (suc j) = each_count cs (and_parts (count_ok c) (each count_ok cs) ok).1 j
+each_count (c ∷ cs) ok zero = leb-true c max_count (and_parts (count_ok c) (list_all count_ok cs) ok).0
+each_count (c ∷ cs) ok (suc j) = each_count cs (and_parts (count_ok c) (list_all count_ok cs) ok).1 j
 
 object_below : (x : ℕ) → object_ok x ≡ true → x < max_objects
 object_below x ok = let le = leb-true x 5 (and_parts (leb 0 x) (leb x 5) ok).1 in omega arith
@@ -53,7 +53,7 @@ module _ (x : ℕ) (v : List ℕ) (h : ℕ) (clock : List ℕ) (ok : in_range (w
   first_parts = (and_parts ((object_ok x && cells_ok v) && height_ok h) (clock_ok clock) ok).0
 
   pub notice_counts : (j : ℕ) → get_or clock j 0 ≤ max_count
-  notice_counts = each_count clock (and_parts _ (each count_ok clock) (and_parts ((object_ok x && cells_ok v) && height_ok h) (clock_ok clock) ok).1).1
+  notice_counts = each_count clock (and_parts _ (list_all count_ok clock) (and_parts ((object_ok x && cells_ok v) && height_ok h) (clock_ok clock) ok).1).1
 
   pub notice_cells : 1 ≤ length v
   notice_cells = leb-true 1 (length v) (and_parts (leb 1 (length v)) (leb (length v) 16) (and_parts (object_ok x) (cells_ok v) (and_parts (object_ok x && cells_ok v) (height_ok h) first_parts).0).1).0

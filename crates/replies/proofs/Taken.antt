@@ -1,20 +1,16 @@
 -- What is found where a coded reply is taken. Assumes nothing.
-use Rattle.std.proofs.Common.{◌≡◌, ℕ, Bool, false, List, Some, None, Option, refl, ap, ◌∙◌, subst}
+use Rattle.std.proofs.Common.{◌≡◌, ℕ, Bool, false, List, Some, None, Option, sym, refl, ap, ◌∙◌, subst}
 use Rattle.std.proofs.lemmas.Bool.{both_ways}
 use Rattle.message.specs.declared.tag.Tag.{Tag}
 use Rattle.code.specs.Codings.{Coding}
 use Rattle.code.specs.Recovery.{Recovers, Decoded}
-use Rattle.reads.specs.declared.reads.Asking as declared
-use Rattle.reads.specs.declared.reads.Read as reads
-use Rattle.reads.specs.declared.reads.Read.TheVariants as ReadOf
-use Rattle.reads.specs.Readings.{read}
 use Rattle.rules.specs.Delivering.{open_place, mended}
 use Rattle.rules.specs.Runs.{Tested, AllowedSymbol, AllowedRead, AllowedPlace}
 use Rattle.rules.specs.State.{Layout, Server, Asking, Read, Open}
 use Rattle.rules.specs.Turns.{Found, Outcome}
 use Rattle.rules.specs.Updates.{reading, in_hand}
 use Rattle.rules.specs.Words.{upd}
-use Rattle.server_split.specs.Steps.{laid}
+use Rattle.server.specs.Steps.{laid}
 use Rattle.steps.specs.Local.{Local, local}
 use Rattle.steps.specs.Reading.{found_of}
 use Rattle.replies.specs.Receiving.{dropped_local, settle_local, coded_symbol, coded_by, coded_from}
@@ -76,10 +72,5 @@ module _ (g : Coding) (p : Server) (a m : ℕ) (v : List ℕ) (ts : List Tag) (q
       step = λ places. let l = laid g places in step places ∙ ap (coded_by l p a i v ts f) is ∙ ap (coded_from l p a v ts f) at;
     }
 
-    pub coded_not_open : (t : reads.Read) → read t ≡ p.reads i → ((b : declared.Asking) → t ≡ ReadOf.Open b → ⊥) → q ≡ dropped_local p → CodedTaken g p a m v ts q
-    coded_not_open ReadOf.Free is no_way e = coded_read (read ReadOf.Free) (found_of None) is (λ _. tt) (λ _. e)
-    coded_not_open (ReadOf.Open b) is no_way e = absurd (no_way b refl)
-    coded_not_open (ReadOf.Answered b) is no_way e = coded_read (read (ReadOf.Answered b)) (found_of None) is (λ _. tt) (λ _. e)
-
-    pub coded_open : (r : Asking) → Open r ≡ p.reads i → SymbolTaken g p a i r v ts q → CodedTaken g p a m v ts q
-    coded_open r is taken = coded_read (Open r) taken.found is taken.allowed taken.step
+    pub coded_open : (r : Asking) → p.reads i ≡ Open r → SymbolTaken g p a i r v ts q → CodedTaken g p a m v ts q
+    coded_open r is taken = coded_read (Open r) taken.found (sym is) taken.allowed taken.step

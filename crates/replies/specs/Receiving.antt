@@ -11,7 +11,7 @@ use Rattle.rules.specs.State.{Layout, Server, Asking, Read, Free, Open, Answered
 use Rattle.rules.specs.Turns.{Found, Outcome, check}
 use Rattle.rules.specs.Updates.{queued, hearing, reading, in_hand}
 use Rattle.rules.specs.Words.{upd}
-use Rattle.server_split.specs.Steps.{has_room}
+use Rattle.server.specs.Steps.{has_room}
 use Rattle.steps.specs.Local.{Local, local, refused_or}
 
 -- the reply is dropped

@@ -8,7 +8,7 @@ use Rattle.rules.specs.Delivering.{open_place, mended, fits}
 use Rattle.rules.specs.Runs.{AllowedSymbol, AllowedPlace, AllowedMessage}
 use Rattle.rules.specs.State.{Server, Asking}
 use Rattle.rules.specs.Turns.{Found, check}
-use Rattle.server_split.specs.Steps.{laid}
+use Rattle.server.specs.Steps.{laid}
 use Rattle.steps.specs.Local.{Local, refused_or}
 use Rattle.replies.specs.Receiving.{coded_symbol, coded_from, got_local, deliver_local}
 

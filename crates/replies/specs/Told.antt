@@ -6,9 +6,9 @@ use Rattle.message.specs.Meanings.{meaning}
 use Rattle.rules.specs.State.{Server}
 use Rattle.rules.specs.Turns.{Refused, Outcome}
 use Rattle.steps.specs.Local.{Local, local}
+use Rattle.steps.specs.declared.turns.Turn.{Turn}
 use Rattle.replies.specs.declared.turns.Delivered.{Delivered}
 use Rattle.replies.specs.declared.turns.Delivered.TheVariants as delivered
-use Rattle.replies.specs.declared.turns.DeliverTurn.{DeliverTurn}
 
 -- the number of each outcome of a delivery
 abbrev pub delivered_number : Delivered → ℕ
@@ -27,6 +27,6 @@ reply_said (Ok o) q = local (Outcome (delivered_number o)) q None
 reply_said (Err e) q = local (Refused e) q None
 
 -- a delivery, and the server after it
-abbrev pub deliver_said : Result DeliverTurn Refusal → Server → Local
-deliver_said (Ok t) q = local (Outcome (delivered_number t.outcome)) q (option_map meaning t.reply)
+abbrev pub deliver_said : Result (Turn Delivered) Refusal → Server → Local
+deliver_said (Ok t) q = local (Outcome (delivered_number t.answer)) q (option_map meaning t.news)
 deliver_said (Err e) q = local (Refused e) q None

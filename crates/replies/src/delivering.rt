@@ -1,5 +1,5 @@
 // A message is delivered to a server.
-ghost use Rattle.std.specs.Prelude.{◌≡◌, ℕ, ◌<◌, Bool, true, List, IfOk};
+ghost use Rattle.std.specs.Prelude.{◌≡◌, ℕ, ◌<◌, Bool, true};
 ghost use Rattle.terms.specs.Items.{items};
 ghost use Rattle.message.specs.Meanings.{write_notice, question, meaning as meaning_of};
 ghost use Rattle.message.specs.Ranges.{in_range};
@@ -8,16 +8,14 @@ ghost use Rattle.code.specs.Meaning.{meaning};
 ghost use Rattle.rules.specs.Delivering.{fits};
 ghost use Rattle.rules.specs.State.{Layout, Server as Kept};
 ghost use Rattle.rules.specs.Turns.{Found};
-ghost use Rattle.server_split.specs.Servers.{server};
-ghost use Rattle.server_split.specs.Steps.{laid};
-ghost use Rattle.steps.specs.Local.{Sendable};
+ghost use Rattle.server.specs.Servers.{server};
+ghost use Rattle.server.specs.Steps.{laid};
 ghost use Rattle.replies.specs.Receiving.{got_local};
 ghost use Rattle.replies.specs.Taking.{MessageTaken, DeliveredBy};
 ghost use Rattle.replies.specs.Told.{reply_said, deliver_said};
 
 use crate::fitting::fits;
-use crate::receiving::take_coded;
-use crate::replying::reply;
+use crate::seats::Seat;
 use crate::settling::take_plain;
 use crate::turns::{DeliverTurn, Delivered};
 use code::code::Code;
@@ -25,25 +23,27 @@ use field::interface::Field;
 use message::kinds::{Clock, Message, Tags};
 use message::tag::Tag;
 use reads::numbers::{ObjectNumber, ServerNumber};
-use server_split::server::Server;
-use server_split::values::Value;
+use std::marker::PhantomData;
+use steps::turns::Turn;
+use teller::teller::Teller;
+use teller::values::Value;
 use terms::bounded::Cells;
 use terms::refusal::Refusal;
 use waiting::waiting::Waiting;
 
 // A write notice joins the waiting writes.
 fn note_write(
-    p: &mut Server,
+    p: &mut Teller,
     from: ServerNumber,
     object: u32,
-    value: Cells,
+    cells: Cells,
     height: u32,
     clock: Clock,
 ) -> Result<Delivered, Refusal>
-    requires { in_range (write_notice object (items value) height (items clock)) ≡ true }
-    ensures { (l : Layout) (b : ℕ) (back : Bool) (f : Found) → reply_said result (server p.new) ≡ got_local l (server p.old) from.number b back (write_notice object (items value) height (items clock)) f }
+    requires { in_range (write_notice object (items cells) height (items clock)) ≡ true }
+    ensures { (l : Layout) (b : ℕ) (back : Bool) (f : Found) → reply_said result (server p.new.server) ≡ got_local l (server p.old.server) from.number b back (write_notice object (items cells) height (items clock)) f }
 {
-    if !p.waiting().has_room() {
+    if !p.server.waiting().has_room() {
         return Err(Refusal::WaitingFull);
     }
     p.queue(Waiting {
@@ -52,7 +52,7 @@ fn note_write(
             height,
             server: from.number as u32,
         },
-        value,
+        value: cells,
         clock,
     });
     Ok(Delivered::Noted)
@@ -61,41 +61,33 @@ fn note_write(
 // What was taken, with no reply.
 fn silent(taken: Result<Delivered, Refusal>) -> Result<DeliverTurn, Refusal>
     ensures said { (q : Kept) → deliver_said result q ≡ reply_said taken q }
-    ensures sendable { IfOk result (λ t. Sendable t.reply) }
 {
-    match taken {
-        Ok(outcome) => Ok(DeliverTurn {
-            outcome,
-            reply: None,
-        }),
-        Err(refusal) => Err(refusal),
-    }
+    taken.map(|answer| Turn::quiet(answer))
 }
 
-// A question is answered, if the lane back has a place.
-fn answer<F: Field + Copy>(
-    p: &Server,
-    code: &Code<F>,
-    me: ServerNumber,
-    back_free: bool,
-    read: u32,
-    object: u32,
-    asked: &Tags,
-) -> Result<DeliverTurn, Refusal>
-    requires server_within { me.number < code.now.servers }
-    requires in_range { in_range (question read object (items asked.now)) ≡ true }
-    ensures step { (places a : ℕ) (f : Found) → deliver_said result (server p.now) ≡ got_local (laid (meaning F.arithmetic code.now) places) (server p.now) a me.number back_free (question read object (items asked.now)) f }
-    ensures sendable { IfOk result (λ t. Sendable t.reply) }
-{
-    if !back_free {
-        return Err(Refusal::LaneFull);
+impl<F: Field + Copy> Seat<'_, F> {
+    // A question is answered, if the lane back has a place.
+    fn answer(
+        &self,
+        p: &Teller,
+        back_free: bool,
+        read: u32,
+        object: u32,
+        asked: &Tags,
+    ) -> Result<DeliverTurn, Refusal>
+        requires { in_range (question read object (items asked.now)) ≡ true }
+        ensures step { (places a : ℕ) (f : Found) → deliver_said result (server p.now.server) ≡ got_local (laid (meaning F.arithmetic self.now.code.now) places) (server p.now.server) a self.now.server.number back_free (question read object (items asked.now)) f }
+    {
+        if !back_free {
+            return Err(Refusal::LaneFull);
+        }
+        Ok(self.reply(p, read, object, asked))
     }
-    Ok(reply(p, code, me, read, object, asked))
 }
 
 // A message that fits is taken.
 fn receive<F: Field + Copy>(
-    p: &mut Server,
+    p: &mut Teller,
     code: &Code<F>,
     me: ServerNumber,
     from: ServerNumber,
@@ -105,8 +97,7 @@ fn receive<F: Field + Copy>(
     requires me_within { me.number < code.now.servers }
     requires from_within { from.number < code.now.servers }
     requires fit { fits (laid (meaning F.arithmetic code.now) 0) (meaning_of m) ≡ true }
-    ensures taken { MessageTaken (meaning F.arithmetic code.now) (server p.old) from.number me.number back_free (meaning_of m) (deliver_said result (server p.new)) }
-    ensures sendable { IfOk result (λ t. Sendable t.reply) }
+    ensures taken { MessageTaken (meaning F.arithmetic code.now) (server p.old.server) from.number me.number back_free (meaning_of m) (deliver_said result (server p.new.server)) }
 {
     match m {
         Message::WriteNotice {
@@ -118,42 +109,43 @@ fn receive<F: Field + Copy>(
         Message::TagNotice { object, tag } => {
             let x = ObjectNumber {
                 number: object as usize,
+                of: PhantomData,
             };
             p.hear(x, from, tag);
             silent(Ok(Delivered::Noted))
         }
         Message::Question { read, object, tags } => {
-            answer(p, code, me, back_free, read, object, &tags)
+            let seat = Seat { code, server: me };
+            seat.answer(p, back_free, read, object, &tags)
         }
         Message::PlainReply { read, value } => silent(take_plain(p, read, Value { cells: value })),
         Message::CodedReply {
             read,
             symbol,
             stated,
-        } => silent(take_coded(p, code, from, read, symbol, &stated)),
+        } => {
+            let sender = Seat { code, server: from };
+            silent(sender.take_coded(p, read, symbol, &stated))
+        }
     }
 }
 
 // A message from one server is delivered to another, number `me`; `back_free` tells whether the lane back has a place.
 pub fn deliver<F: Field + Copy>(
-    p: &mut Server,
+    p: &mut Teller,
     code: &Code<F>,
     me: ServerNumber,
     from: ServerNumber,
     m: Message,
     back_free: bool,
 ) -> Result<DeliverTurn, Refusal>
-    ensures delivered { DeliveredBy (meaning F.arithmetic code.now) (server p.old) from.number me.number back_free (meaning_of m) (deliver_said result (server p.new)) }
-    ensures sendable { IfOk result (λ t. Sendable t.reply) }
+    ensures delivered { DeliveredBy (meaning F.arithmetic code.now) (server p.old.server) from.number me.number back_free (meaning_of m) (deliver_said result (server p.new.server)) }
 {
     if from.number >= code.servers() || me.number >= code.servers() {
         return Err(Refusal::NoSuchServer);
     }
     if !fits(code, &m) {
-        return Ok(DeliverTurn {
-            outcome: Delivered::Unfit,
-            reply: None,
-        });
+        return Ok(Turn::quiet(Delivered::Unfit));
     }
     receive(p, code, me, from, m, back_free)
 }

@@ -1,67 +1,38 @@
 // Whether a message fits a group.
-ghost use Rattle.std.specs.Prelude.{◌≡◌, ℕ, ◌&&◌, ltb, length, ◌==◌, nat_lt, slice_index};
+ghost use Rattle.std.specs.Prelude.{◌≡◌, ℕ, ◌&&◌, length, ◌==◌, nat_lt};
 ghost use Rattle.terms.specs.Items.{items};
-ghost use Rattle.terms.specs.Lists.{each};
+ghost use Rattle.std.specs.List.{list_all};
 ghost use Rattle.message.specs.Meanings.{meaning as meaning_of};
 ghost use Rattle.code.specs.Meaning.{meaning};
 ghost use Rattle.rules.specs.Delivering.{fits_value, fits_tag, fits_tags, fits_group, fits};
-ghost use Rattle.rules.specs.Words.{every};
-ghost use Rattle.server_split.specs.Steps.{laid};
+ghost use Rattle.server.specs.Steps.{laid};
 
 use code::code::Code;
+use code::code::values::all_elements;
 use field::interface::Field;
 use message::kinds::{Clock, Message, Tags};
 use message::tag::Tag;
 use terms::bounded::Cells;
 
-// The cell c, or 0 past the last.
-fn cell_at(value: &[u8], c: usize) -> u8
-    ensures { result ≡ slice_index value.now c }
-{
-    if c < value.len() { value[c] } else { 0 }
-}
-
-fn is_element<F: Field>(value: &[u8], c: usize) -> bool
-    ensures { result ≡ nat_lt (slice_index value.now c) F.arithmetic.size }
-{
-    (cell_at(value, c) as u16) < F::size()
-}
-
-// Whether each of the first cells is an element.
-pub fn all_elements<F: Field>(value: &[u8], cells: usize) -> bool
-    ensures decided { result ≡ every cells (λ c. ltb (slice_index value.now c) F.arithmetic.size) }
-{
-    let mut all = true;
-    for c in 0..cells {
-        all = all & is_element::<F>(value, c);
-    }
-    all
-}
-
 // Whether this is a value: as many elements as there are cells.
 fn fits_value<F: Field + Copy>(code: &Code<F>, value: &Cells) -> bool
     ensures { (places : ℕ) → result ≡ fits_value (laid (meaning F.arithmetic code.now) places) (items value.now) }
 {
-    value.len() == code.cells() && all_elements::<F>(value.as_slice(), code.cells())
+    value.len() == code.cells() && all_elements::<F>(value.as_slice())
 }
 
 // Whether the tag's server is one of the group's.
 fn fits_tag<F: Field + Copy>(code: &Code<F>, tag: Tag) -> bool
-    ensures { (places : ℕ) → result ≡ fits_tag (laid (meaning F.arithmetic code.now) places) tag }
+    ensures { result ≡ nat_lt tag.server (meaning F.arithmetic code.now).servers }
 {
     (tag.server as usize) < code.servers()
 }
 
 // Whether each tag's server is one of the group's.
 fn fits_each<F: Field + Copy>(code: &Code<F>, tags: &[Tag]) -> bool
-    ensures { (places : ℕ) → result ≡ each (fits_tag (laid (meaning F.arithmetic code.now) places)) tags.now }
+    ensures { result ≡ list_all (λ t. nat_lt t.server (meaning F.arithmetic code.now).servers) tags.now }
 {
-    for tag in tags {
-        if !fits_tag(code, *tag) {
-            return false;
-        }
-    }
-    true
+    tags.iter().all(|tag| fits_tag(code, *tag))
 }
 
 // Whether there is a tag for each object.

@@ -6,5 +6,6 @@ pub mod fitting;
 pub mod mending;
 pub mod receiving;
 pub mod replying;
+pub mod seats;
 pub mod settling;
 pub mod turns;

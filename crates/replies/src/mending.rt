@@ -1,5 +1,5 @@
 // A coded reply, made to fit its read, and what the symbols in hand then tell.
-ghost use Rattle.std.specs.Prelude.{◌≡◌, ℕ, ◌<◌, true, not, ◌&&◌, List, MatchOption, nat_lt, slice_index_or};
+ghost use Rattle.std.specs.Prelude.{◌≡◌, ℕ, ◌≤◌, true, not, ◌&&◌, List, MatchOption, nat_lt, slice_index_or};
 ghost use Rattle.std.specs.Option.{option_map};
 ghost use Rattle.terms.specs.Items.{items};
 ghost use Rattle.terms.specs.Sets.{member};
@@ -12,37 +12,29 @@ ghost use Rattle.rules.specs.Delivering.{mended_at, mended};
 ghost use Rattle.rules.specs.Histories.{holds};
 ghost use Rattle.rules.specs.Updates.{in_hand};
 ghost use Rattle.rules.specs.Words.{upd};
-ghost use Rattle.server_split.specs.Servers.{server};
-ghost use Rattle.server_split.specs.Steps.{laid};
+ghost use Rattle.server.specs.Servers.{server};
+ghost use Rattle.server.specs.Steps.{laid};
 
 use crate::replying::turned;
+use crate::seats::Seat;
 use code::code::Code;
 use field::interface::Field;
 use message::kinds::Tags;
 use message::tag::Tag;
 use reads::numbers::ServerNumber;
 use reads::reads::Asking;
-use server_split::server::Server;
+use server::server::Server;
+use std::marker::PhantomData;
+use steps::shares::Share;
+use teller::values::OpenRead;
 use terms::bounded::Cells;
-use terms::limits::MAX_SERVERS;
 use terms::servers::ServerSet;
 
-// Whether the sender contains the object y and has stated another tag of it than the read's.
-fn differs<F: Field + Copy>(
-    code: &Code<F>,
-    from: ServerNumber,
-    asking: &Asking,
-    y: usize,
-    stated: Tag,
-) -> bool
-    requires server_within { from.number < code.now.servers }
-    requires object_within { y < code.now.objects }
-    ensures { result ≡ (contains (meaning F.arithmetic code.now) from.number y && not (same stated ((asking_of asking.now).tags y))) }
+// Whether the sender contains the object and has stated another tag of it than the read's.
+fn differs<F: Field + Copy>(share: &Share<F>, asking: &Asking, stated: Tag) -> bool
+    ensures { result ≡ (contains (meaning F.arithmetic share.now.code.now) share.now.server.number share.now.object.number && not (same stated ((asking_of asking.now).tags share.now.object.number))) }
 {
-    match code.contains(from.number, y) {
-        Ok(contained) => contained && !stated.equals(asking.tag_of(y)),
-        Err(_) => false,
-    }
+    share.is_contained() && stated != asking.tag_of(share.object.number)
 }
 
 // Whether the values of the object y under both tags are held.
@@ -52,94 +44,77 @@ fn holds_both(p: &Server, y: usize, s: Tag, t: Tag) -> bool
     p.history().holds(y, s) && p.history().holds(y, t)
 }
 
-// The symbol as one of the read's tag of the object y, if that can be had.
+// The symbol as one of the read's tag of the object, if that can be had.
 fn mended_at<F: Field + Copy>(
     p: &Server,
-    code: &Code<F>,
-    from: ServerNumber,
+    share: &Share<F>,
     asking: &Asking,
-    y: usize,
     stated: Tag,
     symbol: Cells,
 ) -> Option<Cells>
-    requires server_within { from.number < code.now.servers }
-    requires object_within { y < code.now.objects }
-    ensures { (places : ℕ) (ts : List Tag) → stated ≡ slice_index_or ts y zero_tag → option_map items result ≡ mended_at (laid (meaning F.arithmetic code.now) places) (server p.now) from.number (asking_of asking.now) ts y (items symbol) }
+    ensures { (places : ℕ) (ts : List Tag) → stated ≡ slice_index_or ts share.now.object.number zero_tag → option_map items result ≡ mended_at (laid (meaning F.arithmetic share.now.code.now) places) (server p.now) share.now.server.number (asking_of asking.now) ts share.now.object.number (items symbol) }
 {
-    if !differs(code, from, asking, y, stated) {
+    if !differs(share, asking, stated) {
         return Some(symbol);
     }
+    let y = share.object.number;
     let wanted = asking.tag_of(y);
     if !holds_both(p, y, stated, wanted) {
         return None;
     }
-    Some(turned(p, code, from, y, stated, wanted, symbol))
+    Some(turned(p, share, stated, wanted, &symbol).cells)
 }
 
-// The symbol as one of the read's tags, if that can be had.
-pub(crate) fn mended<F: Field + Copy>(
-    p: &Server,
-    code: &Code<F>,
-    from: ServerNumber,
-    asking: &Asking,
-    symbol: Cells,
-    stated: &Tags,
-) -> Option<Cells>
-    requires server_within { from.number < code.now.servers }
-    ensures { (places : ℕ) → option_map items result ≡ mended (laid (meaning F.arithmetic code.now) places) (server p.now) from.number (asking_of asking.now) (items symbol) (items stated.now) code.now.objects }
-{
-    let mut symbol = symbol;
-    for y in 0..code.objects() {
-        let tag = stated.get_or(y, Tag::zero());
-        let Some(next) = mended_at(p, code, from, asking, y, tag, symbol) else {
-            return None;
-        };
-        symbol = next;
+impl<F: Field + Copy> Seat<'_, F> {
+    // A symbol of the server as one of the read's tags, if that can be had.
+    pub(crate) fn mended(
+        &self,
+        p: &Server,
+        asking: &Asking,
+        symbol: Cells,
+        stated: &Tags,
+    ) -> Option<Cells>
+        ensures { (places : ℕ) → option_map items result ≡ mended (laid (meaning F.arithmetic self.now.code.now) places) (server p.now) self.now.server.number (asking_of asking.now) (items symbol) (items stated.now) self.now.code.now.objects }
+    {
+        let mut symbol = symbol;
+        for y in 0..self.code.objects() {
+            let tag = stated.get_or(y, Tag::zero());
+            symbol = mended_at(p, &self.share(y), asking, tag, symbol)?;
+        }
+        Some(symbol)
     }
-    Some(symbol)
 }
 
 // The read with the sender's symbol in hand.
-pub(crate) fn in_hand(asking: &Asking, from: ServerNumber, symbol: Cells) -> Asking
-    ensures { asking_of result ≡ in_hand (asking_of asking.now) from.number (items symbol) }
+pub(crate) fn in_hand(read: &OpenRead, from: ServerNumber, symbol: Cells) -> OpenRead
+    ensures { asking_of result.asking ≡ in_hand (asking_of read.now.asking) from.number (items symbol) }
 {
-    let mut symbols = asking.symbols;
-    symbols[from.number] = symbol;
-    Asking {
-        number: asking.number,
-        object: asking.object,
-        tags: asking.tags,
-        hand: with(asking.hand, from),
-        own: asking.own,
-        symbols,
-    }
+    let mut asking = read.asking;
+    asking.hand = with(asking.hand, from);
+    asking.symbols[from.number] = symbol;
+    OpenRead { asking }
 }
 
 // The set and one server more.
 fn with(set: ServerSet, s: ServerNumber) -> ServerSet
     ensures { member result ≡ upd (member set) s.number true }
 {
-    match set.with(s.number) {
-        Ok(more) => more,
-        Err(_) => set,
-    }
-}
-
-// Whether the server s is in the set, and below n.
-fn is_known(set: &ServerSet, n: usize, s: usize) -> bool
-    ensures { result ≡ (nat_lt s n && member set.now s) }
-{
-    s < n && set.has(s)
+    set.with(s.number).unwrap_or(set)
 }
 
 // The servers of a set that are below n.
 fn below(set: ServerSet, n: usize) -> ServerSet
+    requires { n ≤ 6 }
     ensures { (s : ℕ) → member result s ≡ (nat_lt s n && member set s) }
 {
     let mut known = ServerSet::empty();
-    for s in 0..MAX_SERVERS {
-        if is_known(&set, n, s) {
-            known = with(known, ServerNumber { number: s });
+    for s in 0..n {
+        if set.has(s) {
+            let member = ServerNumber {
+                number: s,
+                of: PhantomData,
+            };
+            known = with(known, member);
         }
     }
     known
@@ -149,12 +124,7 @@ fn below(set: ServerSet, n: usize) -> ServerSet
 pub(crate) fn decoded<F: Field + Copy>(code: &Code<F>, asking: &Asking) -> Option<Cells>
     ensures { MatchOption result (Recovers (meaning F.arithmetic code.now) (asking_of asking.now).hand asking.now.object → ⊥) (λ v. Recovers (meaning F.arithmetic code.now) (asking_of asking.now).hand asking.now.object × Decoded (meaning F.arithmetic code.now) (asking_of asking.now).hand (asking_of asking.now).symbols asking.now.object (items v)) }
 {
-    if asking.object >= code.objects() {
-        return None;
-    }
     let known = below(asking.hand, code.servers());
-    match code.decode_any(&known, &asking.symbols[..], asking.object) {
-        Ok(found) => found,
-        Err(_) => None,
-    }
+    code.decode_any(&known, &asking.symbols, asking.object)
+        .unwrap_or(None)
 }

@@ -5,7 +5,8 @@ use Rattle.message.specs.Meanings.{Meaning, write_notice}
 use Rattle.field.specs.Sums.{sum}
 use Rattle.code.specs.Codings.{Value, symbol}
 use Rattle.code.specs.Recovery.{Recovers}
-use Rattle.rules.specs.Words.{upd, every, some, first_below}
+use Rattle.rules.specs.Words.{upd, some, first_below}
+use Rattle.terms.specs.Lists.{every}
 use Rattle.rules.specs.Lanes.{posted, spread, taken}
 use Rattle.rules.specs.Histories.{has_entry, entered_value, value_under, highest}
 use Rattle.rules.specs.State.{Server, new_group}

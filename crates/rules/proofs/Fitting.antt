@@ -6,7 +6,7 @@ use Rattle.std.proofs.lemmas.Bool.{le-leb, and_parts, and_from, lt-ltb, eq-eqb}
 use Rattle.terms.specs.Limits.{max_height}
 use Rattle.message.specs.declared.tag.Tag as declared
 use Rattle.message.specs.Ranges.{tag_ok, tags_ok, cells_ok, read_ok}
-use Rattle.terms.specs.Lists.{each}
+use Rattle.std.specs.List.{list_all}
 use Rattle.rules.proofs.Words.{every_from}
 use Rattle.rules.specs.Delivering as rule
 use Rattle.rules.proofs.RankedMessages.{Tagged, Plain, Coded}
@@ -49,9 +49,9 @@ plain_fits g R m v lo hi long less =
     and_from _ _ (and_from (read_ok m) (cells_ok v) (number_ok m lo hi) w.0) w.1
 
 -- each tag of a list passes
-each_at : (p : declared.Tag → Bool) (st : List ℕ) → ((y : ℕ) → y < length st → p (tag_at (get_or st y 0)) ≡ true) → each p (map tag_at st) ≡ true
+each_at : (p : declared.Tag → Bool) (st : List ℕ) → ((y : ℕ) → y < length st → p (tag_at (get_or st y 0)) ≡ true) → list_all p (map tag_at st) ≡ true
 each_at p [] h = refl
-each_at p (t ∷ st) h = and_from (p (tag_at t)) (each p (map tag_at st)) (h 0 (omega arith)) (each_at p st (λ y lt. h (suc y) (omega arith)))
+each_at p (t ∷ st) h = and_from (p (tag_at t)) (list_all p (map tag_at st)) (h 0 (omega arith)) (each_at p st (λ y lt. h (suc y) (omega arith)))
 
 pub coded_fits : (g : Code) (R : Lawful g) (m : ℕ) (v st : List ℕ) → 1 ≤ m → m ≤ 1000000 → length v ≡ g.w → ((c : ℕ) → c < g.w → get_or v c 0 < g.q) → length st ≡ g.k → ((y : ℕ) → y < g.k → tag_fits g (get_or st y 0) ≡ true)
     → fits g (Coded m v st) ≡ true
@@ -61,9 +61,9 @@ coded_fits g R m v st lo hi long less many tags =
     let a = R.objects in
     let b = R.few_objects in
     let e : length (map tag_at st) ≡ g.k = length-map st tag_at ∙ many in
-    let ok : each tag_ok (map tag_at st) ≡ true = each_at tag_ok st (λ y lt. tag_ok_at g.n (get_or st y 0) R.few (tags y (omega arith))) in
-    let fit : each (rule.fits_tag (layout_of g)) (map tag_at st) ≡ true = each_at (rule.fits_tag (layout_of g)) st (λ y lt.
+    let ok : list_all tag_ok (map tag_at st) ≡ true = each_at tag_ok st (λ y lt. tag_ok_at g.n (get_or st y 0) R.few (tags y (omega arith))) in
+    let fit : list_all (rule.fits_tag (layout_of g)) (map tag_at st) ≡ true = each_at (rule.fits_tag (layout_of g)) st (λ y lt.
     (and_parts (ltb (get_or st y 0 % 6) g.n) _ (and_parts (leb (get_or st y 0 / 6) max_height) _ (tags y (omega arith))).1).0) in
-    let listed_ok : tags_ok (map tag_at st) ≡ true = and_from _ (each tag_ok (map tag_at st)) (and_from (leb 1 (length (map tag_at st))) (leb (length (map tag_at st)) 6) (le-leb 1 (length (map tag_at st)) (omega arith)) (le-leb (length (map tag_at st)) 6 (omega arith))) ok in
+    let listed_ok : tags_ok (map tag_at st) ≡ true = and_from _ (list_all tag_ok (map tag_at st)) (and_from (leb 1 (length (map tag_at st))) (leb (length (map tag_at st)) 6) (le-leb 1 (length (map tag_at st)) (omega arith)) (le-leb (length (map tag_at st)) 6 (omega arith))) ok in
     and_from _ _ (and_from (read_ok m && cells_ok v) (tags_ok (map tag_at st)) (and_from (read_ok m) (cells_ok v) (number_ok m lo hi) w.0) listed_ok)
     (and_from (rule.fits_value (layout_of g) v) _ w.1 (and_from (eqb (length (map tag_at st)) g.k) _ (eq-eqb (length (map tag_at st)) g.k e) fit))

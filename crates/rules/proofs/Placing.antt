@@ -8,7 +8,7 @@ use Rattle.terms.specs.Limits.{max_entries}
 use Rattle.message.specs.declared.tag.Tag.{Tag}
 use Rattle.message.specs.Tags.{zero_tag, lower, same}
 use Rattle.message.proofs.Order.{equal_of_same}
-use Rattle.rules.specs.Words.{every}
+use Rattle.terms.specs.Lists.{every}
 use Rattle.rules.specs.Histories.{Entry, is_entry, has_entry, entered_value, value_under, zero_record, later, raised, highest, highest_held}
 use Rattle.rules.specs.State.{Layout, Server}
 use Rattle.rules.specs.Encoding.{lowest, floor, wanted, stays, settled, swept}

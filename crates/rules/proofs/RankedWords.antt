@@ -3,7 +3,8 @@ use Rattle.std.proofs.Common.{ℕ, zero, suc, min, Bool, cond, ltb}
 use Rattle.rules.specs.Lanes as lanes
 use Rattle.rules.proofs.RankedMessages.{Message}
 pub use Rattle.terms.specs.Lists.{listed}
-unfoldable pub use Rattle.rules.specs.Words.{upd, every, some}
+unfoldable pub use Rattle.rules.specs.Words.{upd, some}
+unfoldable pub use Rattle.terms.specs.Lists.{every}
 unfoldable pub use Rattle.rules.specs.Lanes.{posted, spread, taken}
 pub use Rattle.rules.specs.Lanes.{free}
 

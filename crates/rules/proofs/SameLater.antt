@@ -4,11 +4,11 @@ use mathlib.Core.Path.{fun_ext}
 use lib.ListN.{length-map}
 use Rattle.std.proofs.lemmas.Bool.{cond-true, cond-false, ltb-true, lt-ltb, and_parts, both_ways, not-true}
 use Rattle.std.proofs.lemmas.List.{map-append}
-use Rattle.terms.specs.Lists.{listed}
+use Rattle.terms.specs.Lists.{listed, every}
 use Rattle.message.specs.declared.tag.Tag as declared
 use Rattle.message.specs.Tags.{zero_tag, lower, same}
 use Rattle.message.specs.Meanings.{Meaning, plain_reply, coded_reply}
-use Rattle.rules.specs.Words.{upd, every}
+use Rattle.rules.specs.Words.{upd}
 use Rattle.rules.specs.Lanes as lanes
 use Rattle.rules.specs.Lanes.{posted, spread, taken}
 use Rattle.rules.specs.Histories as history

@@ -5,14 +5,14 @@ use lib.ListN.{length-map}
 use Rattle.std.proofs.lemmas.Bool.Decides.{nat_tests}
 use Rattle.std.proofs.lemmas.Bool.{cases_Bool, cond_both, ltb-true}
 use Rattle.std.proofs.lemmas.List.{map-append}
-use Rattle.terms.specs.Lists.{listed}
+use Rattle.terms.specs.Lists.{listed, every}
 use Rattle.terms.specs.declared.refusal.Refusal.{Refusal}
 use Rattle.terms.specs.declared.refusal.Refusal.TheVariants.{NoSuchServer, NoSuchObject, WrongLength, NoSuchRead, NoElement, EqualEnds, LaneEmpty, NumbersUsedUp, HistoryFull, ReadsFull, LaneFull, WaitingFull}
 use Rattle.message.specs.declared.tag.Tag as declared
 use Rattle.message.specs.Tags.{lower, same, rank}
 use Rattle.message.specs.Meanings.{Meaning}
 use Rattle.message.proofs.Order.{lower_rank, same_rank}
-use Rattle.rules.specs.Words.{upd, every, some, or_else, first_below}
+use Rattle.rules.specs.Words.{upd, some, or_else, first_below}
 use Rattle.rules.specs.Lanes as lanes
 use Rattle.rules.specs.Lanes.{posted, spread, taken, free}
 use Rattle.rules.specs.Histories as history

@@ -1,7 +1,8 @@
 -- Deliver: what each kind of message does where it arrives. Assumes nothing.
 use Rattle.std.specs.Prelude.{ℕ, zero, suc, Bool, cond, not, ◌&&◌, List, [], ◌∷◌, ◌++◌, length, get_or, Some, None, Option, ◌==◌, nat_lt, slice_index_or}
 use Rattle.terms.specs.Limits.{max_client_reads, max_waiting}
-use Rattle.terms.specs.Lists.{listed, each}
+use Rattle.terms.specs.Lists.{listed}
+use Rattle.std.specs.List.{list_all}
 use Rattle.terms.specs.declared.refusal.Refusal.{Refusal}
 use Rattle.terms.specs.declared.refusal.Refusal.TheVariants.{NoSuchServer, EqualEnds, LaneEmpty, HistoryFull, LaneFull, WaitingFull}
 use Rattle.message.specs.declared.tag.Tag.{Tag}
@@ -39,7 +40,7 @@ module _ (l : Layout) where
 
   -- a tag for each object
   abbrev pub fits_tags : List Tag → Bool
-  fits_tags ts = length ts == l.code.objects && each fits_tag ts
+  fits_tags ts = length ts == l.code.objects && list_all fits_tag ts
 
   -- by the group's own sizes
   unfoldable pub fits_group : Meaning → Bool

@@ -7,7 +7,8 @@ use Rattle.message.specs.declared.tag.Tag.{Tag}
 use Rattle.message.specs.Tags.{lower, same}
 use Rattle.message.specs.Meanings.{tag_notice}
 use Rattle.code.specs.Codings.{contains, re_encoded}
-use Rattle.rules.specs.Words.{every, some}
+use Rattle.rules.specs.Words.{some}
+use Rattle.terms.specs.Lists.{every}
 use Rattle.rules.specs.Lanes.{spread}
 use Rattle.rules.specs.Histories.{Entry, is_entry, holds, value_under, highest, highest_held, earlier}
 use Rattle.rules.specs.State.{Layout, Read, Free, Open, Answered, Server, State, all_reads, internal}

@@ -1,6 +1,6 @@
 -- The lanes between servers, and what is posted to them and taken from them. Assumes nothing.
 use Rattle.std.specs.Prelude.{ℕ, Bool, cond, not, ◌&&◌, ◌||◌, List, [], ◌∷◌, ◌++◌, length, drop, ◌==◌, nat_lt}
-use Rattle.rules.specs.Words.{every}
+use Rattle.terms.specs.Lists.{every}
 
 -- The lane from each server to each other: messages, oldest first.
 abbrev pub Lanes : Type 0 → Type 0

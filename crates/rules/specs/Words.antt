@@ -1,14 +1,9 @@
 -- Small words: a function changed at one place, and tests over the numbers below a bound. Assumes nothing.
-use Rattle.std.specs.Prelude.{ℕ, zero, suc, Bool, true, false, cond, ◌&&◌, ◌||◌, Some, None, Option, ◌==◌}
+use Rattle.std.specs.Prelude.{ℕ, zero, suc, Bool, true, false, cond, ◌||◌, Some, None, Option, ◌==◌}
 
 -- f, with v at i
 unfoldable pub upd : {A : Type 0} → (ℕ → A) → ℕ → A → ℕ → A
 upd f i v k = cond (k == i) v (f k)
-
--- each number below n passes
-unfoldable pub every : ℕ → (ℕ → Bool) → Bool
-every zero test = true
-every (suc n) test = every n test && test n
 
 -- some number below n passes
 unfoldable pub some : ℕ → (ℕ → Bool) → Bool

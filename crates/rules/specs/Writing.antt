@@ -1,13 +1,13 @@
 -- Write, apply, and the applying of a write. Assumes nothing.
 use Rattle.std.specs.Prelude.{ℕ, zero, suc, ◌+◌, Bool, true, false, cond, ◌&&◌, ltb, List, [], ◌++◌, length, take, drop, Some, None, Option, ◌==◌, nat_le, nat_lt, slice_index, slice_index_or}
 use Rattle.terms.specs.Limits.{max_count, max_height, max_entries}
-use Rattle.terms.specs.Lists.{listed}
+use Rattle.terms.specs.Lists.{listed, every}
 use Rattle.terms.specs.declared.refusal.Refusal.{Refusal}
 use Rattle.terms.specs.declared.refusal.Refusal.TheVariants.{NoSuchServer, NoSuchObject, WrongLength, NoElement, NumbersUsedUp, HistoryFull, LaneFull}
 use Rattle.message.specs.declared.tag.Tag.{Tag}
 use Rattle.message.specs.Tags.{zero_tag, lower}
 use Rattle.message.specs.Meanings.{Meaning, write_notice}
-use Rattle.rules.specs.Words.{upd, every}
+use Rattle.rules.specs.Words.{upd}
 use Rattle.rules.specs.Lanes.{Lanes, spread, free}
 use Rattle.rules.specs.State.{Layout, Waiting, Server, State}
 use Rattle.rules.specs.Updates.{entered, counted, queued, reading, overtaken}

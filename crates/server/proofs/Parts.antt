@@ -61,9 +61,6 @@ pub moved_is : (p q : Server) (s x : ℕ) (t : Tag) (v : List ℕ) (own : ℕ �
 unfolding hearing moved
 moved_is p q s x t v own e eo = ap (λ o. owning q o v) eo ∙ ap (λ (r : Server). owning r (upd r.own x t) v) e
 
-pub sifted_is : (p : Server) (es fs : List Entry) → es ≡ fs → sifted p es ≡ sifted p fs
-sifted_is p es fs e = ap (sifted p) e
-
 pub entered_is : (p : Server) (e : Entry) (b : Bool) (es : List Entry) → es ≡ cond b (p.history ++ e ∷ []) p.history → sifted p es ≡ cond b (entered p e) p
 unfolding sifted entered
 entered_is p e true es is = ap (sifted p) is

@@ -1,7 +1,10 @@
 -- The steps of one server, from its single changes. Assumes nothing.
-use Rattle.std.proofs.Common.{◌≡◌, ℕ, zero, suc, ◌+◌, ◌<◌, ◌≤◌, Bool, true, false, cond, not, ltb, List, length, get_or, take, Some, None, filter, Option, sym, refl, ap, ◌∙◌, ap₂, add-one, arith}
+use Rattle.std.proofs.Common.{◌≡◌, ℕ, zero, suc, ◌+◌, ◌<◌, ◌≤◌, Bool, true, false, cond, ◌&&◌, not, ltb, List, length, get_or, take, Some, None, filter, Option, sym, refl, ap, ◌∙◌, ap₂, add-one, arith}
 use Rattle.std.proofs.lemmas.Bool.{lt-ltb}
+use Rattle.std.specs.List.{list_all}
 use Rattle.std.proofs.lemmas.List.{length-take-le, get_or-take}
+use Rattle.std.proofs.lemmas.List.Folds.{list_all_more}
+use Rattle.terms.specs.Lists.{every}
 use Rattle.terms.specs.Limits.{max_entries, max_read}
 use Rattle.terms.specs.declared.refusal.Refusal.{Refusal}
 use Rattle.terms.specs.declared.refusal.Refusal.TheVariants.{NumbersUsedUp}
@@ -14,7 +17,7 @@ use Rattle.rules.specs.Words.{upd}
 use Rattle.rules.specs.Encoding.{lowest, floor, stays, swept}
 use Rattle.rules.specs.Writing.{write_tag, write_at, without}
 use Rattle.server.specs.Steps.{has_room, after, write_refusal, taken_in, took_in, written, applied, open_refusal, collect_answer, collect_after, settled_among, without_below, without_own}
-use Rattle.server.specs.Readings.{collected_from}
+use Rattle.reads.specs.Readings.{collected_from}
 
 same_reads : (b : Bool) (q : Server) (all : Bool) (e : Entry)
     → reading (cond b (entered q e) q) (overtaken (cond b (entered q e) q).reads all e.object e.tag e.value)
@@ -80,10 +83,10 @@ numbered p rs = record {
 pub open_passes : (p : Server) → p.opened < max_read → open_refusal p ≡ None
 open_passes p lt = ap (λ b. check b NumbersUsedUp None) (lt-ltb p.opened max_read lt)
 
-pub opening_is : (p : Server) (s i x : ℕ) (rs : ℕ → Read) → p.opened < max_read → rs ≡ upd p.reads i (new_read p s x)
+pub opening_is : (p : Server) (s i x : ℕ) (rs : ℕ → Read) → open_refusal p ≡ None → rs ≡ upd p.reads i (new_read p s x)
     → numbered p rs ≡ after (open_refusal p) p (opening p s i x)
 unfolding opening
-opening_is p s i x rs lt e = ap (numbered p) e ∙ ap (λ (o : Option Refusal). after o p (opening p s i x)) (sym (open_passes p lt))
+opening_is p s i x rs passes e = ap (numbered p) e ∙ ap (λ (o : Option Refusal). after o p (opening p s i x)) (sym passes)
 
 pub collect_answered : (r : Read) (g : Given) → Answered g ≡ r → Some g ≡ collect_answer r
 collect_answered r g e = ap collect_answer e
@@ -117,6 +120,13 @@ pub lowest_take : (n : ℕ) (xs : List Tag) (d : Tag) → 1 ≤ n → n ≤ leng
 lowest_take n xs d some few =
     ap (λ (m : ℕ). lowest m (λ j. get_or (take n xs) j d)) (length-take-le n xs few)
     ∙ lowest_same n (λ j. get_or (take n xs) j d) (λ j. get_or xs j d) (get_or-take n xs 0 d (omega arith)) (λ j h. get_or-take n xs j d h)
+
+-- the test of each of the first n items
+pub every_taken : {A : Type 0} (p : A → Bool) (xs : List A) (d : A) (n : ℕ) → n ≤ length xs → every n (λ j. p (get_or xs j d)) ≡ list_all p (take n xs)
+unfolding every
+every_taken p xs d zero h = refl
+every_taken p xs d (suc n) h =
+    ap (λ b. b && p (get_or xs n d)) (every_taken p xs d n (omega arith)) ∙ sym (list_all_more p xs n d (omega arith)) ∙ ap (λ (m : ℕ). list_all p (take m xs)) (add-one n)
 
 -- the two removals, one after the other
 pub swept_is : (l : Layout) (p q r : Server) (x : ℕ) (low : Tag) → low ≡ floor l p x → q ≡ without_below p x low

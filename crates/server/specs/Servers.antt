@@ -4,9 +4,9 @@ use Rattle.terms.specs.Items.{items}
 use Rattle.message.specs.declared.tag.Tag.{Tag}
 use Rattle.message.specs.Tags.{zero_tag}
 use Rattle.rules.specs.State as rules
-use Rattle.server.specs.Entries.{entries}
-use Rattle.server.specs.Writes.{writes}
-use Rattle.server.specs.Readings.{reads}
+use Rattle.history.specs.Entries.{entries}
+use Rattle.waiting.specs.Writes.{writes}
+use Rattle.reads.specs.Readings.{reads}
 use Rattle.server.specs.declared.server.Told.{Told}
 use Rattle.server.specs.declared.server.Server.{Server}
 

@@ -7,13 +7,14 @@ use Rattle.message.specs.declared.tag.Tag.{Tag}
 use Rattle.message.specs.Tags.{lower, same}
 use Rattle.rules.specs.Histories.{Entry, is_entry, highest_held}
 use Rattle.rules.specs.State.{Layout, Waiting, Read, Free, Open, Answered, Given, Server, all_reads}
-use Rattle.rules.specs.Words.{upd, every, some}
+use Rattle.rules.specs.Words.{upd, some}
+use Rattle.terms.specs.Lists.{every}
 use Rattle.rules.specs.Encoding.{asks}
 use Rattle.code.specs.Codings.{Coding}
 use Rattle.rules.specs.Turns.{check}
 use Rattle.rules.specs.Updates.{entered, counted, queued, sifted, reading, overtaken}
 use Rattle.rules.specs.Writing.{write_tag, write_at, without}
-use Rattle.server.specs.Writes.{next_of}
+use Rattle.waiting.specs.Writes.{next_of}
 
 abbrev pub has_room : Server → Bool
 has_room p = nat_lt (length p.history) max_entries

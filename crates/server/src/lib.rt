@@ -1,8 +1,4 @@
 // One server: what it keeps, and the questions and changes that the calls on a group are made of.
 #![tactic(auto)]
 
-pub mod history;
-pub mod numbers;
-pub mod reads;
 pub mod server;
-pub mod waiting;

@@ -2,12 +2,12 @@
 ghost use Rattle.std.specs.Prelude.{◌≡◌, ℕ, ◌≤◌, length, slice_index};
 ghost use Rattle.terms.specs.Limits.{max_servers, max_objects, max_count};
 
-use crate::history::History;
-use crate::reads::Reads;
-use crate::waiting::Queue;
+use history::history::History;
 use message::tag::Tag;
+use reads::reads::Reads;
 use terms::bounded::Cells;
 use terms::limits::{MAX_OBJECTS, MAX_SERVERS};
+use waiting::waiting::Queue;
 
 pub mod changes;
 pub mod lookups;
@@ -36,7 +36,7 @@ pub struct Server {
     reads: Reads,
     // How many reads were opened, of both sorts together: the number of the last.
     opened: u32,
-    // So that a write notice with this clock is within its ranges.
+    // A message that carries this clock is within its ranges.
     ghost counts_in_range: { (j : ℕ) → slice_index clock j ≤ max_count },
     ghost count_each: { length clock ≡ max_servers },
     ghost own_each: { length own ≡ max_objects },

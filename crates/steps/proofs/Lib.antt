@@ -1,6 +1,7 @@
 pub mod Asked
 pub mod Facts
-pub mod Opening
 pub mod Ranges
+pub mod Refused
+pub mod Renamed
 pub mod Rising
 pub mod Turning

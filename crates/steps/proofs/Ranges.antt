@@ -2,7 +2,8 @@
 use Rattle.std.proofs.Common.{◌≡◌, ℕ, suc, ◌<◌, ◌≤◌, Bool, true, ◌&&◌, List, [], ◌∷◌, length, get_or, refl, ap, ◌∙◌, ap₂, arith}
 use Rattle.std.proofs.lemmas.Bool.{le-leb}
 use Rattle.terms.specs.Limits.{max_read, max_height, max_count, max_objects, max_servers, max_cells}
-use Rattle.terms.specs.Lists.{each, listed}
+use Rattle.terms.specs.Lists.{listed}
+use Rattle.std.specs.List.{list_all}
 use Rattle.terms.proofs.Listed.{length_listed, listed_at}
 use Rattle.message.specs.declared.tag.Tag.{Tag}
 use Rattle.message.specs.Meanings.{write_notice, tag_notice, question, plain_reply, coded_reply}
@@ -11,12 +12,12 @@ use Rattle.message.specs.Ranges.{between, in_range, count_ok, tag_ok}
 pub inside : (low high n : ℕ) → low ≤ n → n ≤ high → between low high n ≡ true
 inside low high n a b = ap₂ (λ x y. x && y) (le-leb low n a) (le-leb n high b)
 
-each_by : {A : Type 0} (f : A → Bool) (xs : List A) (d : A) → ((i : ℕ) → i < length xs → f (get_or xs i d) ≡ true) → each f xs ≡ true
+each_by : {A : Type 0} (f : A → Bool) (xs : List A) (d : A) → ((i : ℕ) → i < length xs → f (get_or xs i d) ≡ true) → list_all f xs ≡ true
 each_by f [] d h = refl
 each_by f (x ∷ xs) d h = ap₂ (λ a b. a && b) (h 0 (omega arith)) (each_by f xs d (λ i lt. h (suc i) (omega arith)))
 
 -- a test passes on each item of a list made from a function
-pub each_listed : {A : Type 0} (f : A → Bool) (n : ℕ) (g : ℕ → A) → A → ((i : ℕ) → i < n → f (g i) ≡ true) → each f (listed n g) ≡ true
+pub each_listed : {A : Type 0} (f : A → Bool) (n : ℕ) (g : ℕ → A) → A → ((i : ℕ) → i < n → f (g i) ≡ true) → list_all f (listed n g) ≡ true
 each_listed f n g d h =
     let long = length_listed n g in
     each_by f (listed n g) d (λ i lt. let lt' : i < n = omega (arith, long) in ap f (listed_at n g i d lt') ∙ h i lt')

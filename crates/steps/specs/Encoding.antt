@@ -11,7 +11,7 @@ use Rattle.rules.specs.State.{Layout, Server, internal}
 use Rattle.rules.specs.Turns.{Outcome, check}
 use Rattle.rules.specs.Updates.{entered, moved, is_open}
 use Rattle.history.specs.Entries.{place_of, value_at}
-use Rattle.server_split.specs.Steps.{has_room}
+use Rattle.server.specs.Steps.{has_room}
 use Rattle.steps.specs.Local.{Local, local, refused_or}
 use Rattle.steps.specs.Opening.{open_local}
 

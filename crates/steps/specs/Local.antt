@@ -1,5 +1,5 @@
 -- What a call makes of one server. Assumes nothing.
-use Rattle.std.specs.Prelude.{◌≡◌, true, Some, None, Option}
+use Rattle.std.specs.Prelude.{◌≡◌, true, Some, None, Option, IfSome}
 use Rattle.terms.specs.declared.refusal.Refusal.{Refusal}
 use Rattle.message.specs.declared.kinds.Message.{Message}
 use Rattle.message.specs.Meanings.{Meaning, meaning}
@@ -24,5 +24,4 @@ refused_or (Some e) p t = local (Refused e) p None
 
 -- a message, if there is one, is within the ranges of messages
 abbrev pub Sendable : Option Message → Type 0
-Sendable None = Unit {0}
-Sendable (Some m) = in_range (meaning m) ≡ true
+Sendable o = IfSome o (λ m. in_range (meaning m) ≡ true)

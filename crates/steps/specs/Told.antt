@@ -4,6 +4,7 @@ use Rattle.std.specs.Prelude.{ℕ, Some, None, Ok, Err, Result}
 use Rattle.terms.specs.Items.{items}
 use Rattle.terms.specs.declared.refusal.Refusal.{Refusal}
 use Rattle.message.specs.Meanings.{meaning}
+use Rattle.reads.specs.Ways.{way_number}
 use Rattle.rules.specs.State.{Server}
 use Rattle.rules.specs.Turns as rules
 use Rattle.rules.specs.Turns.{Answer, Refused, Numbered, StillOpen, Outcome}
@@ -11,16 +12,15 @@ use Rattle.steps.specs.Local.{Local, local}
 use Rattle.steps.specs.declared.turns.Valued.{Valued}
 use Rattle.steps.specs.declared.turns.ReadAnswer.{ReadAnswer}
 use Rattle.steps.specs.declared.turns.ReadAnswer.TheVariants.{Given, Opened}
-use Rattle.steps.specs.declared.turns.ReadTurn.{ReadTurn}
 use Rattle.steps.specs.declared.turns.Asked.{Asked}
 use Rattle.steps.specs.declared.turns.Encoded.{Encoded}
 use Rattle.steps.specs.declared.turns.Encoded.TheVariants as encoded
-use Rattle.steps.specs.declared.turns.EncodeTurn.{EncodeTurn}
+use Rattle.steps.specs.declared.turns.Turn.{Turn}
 use Rattle.steps.specs.declared.turns.CollectAnswer.{CollectAnswer}
 use Rattle.steps.specs.declared.turns.CollectAnswer.TheVariants as collected
 
 abbrev pub valued : Valued → Answer
-valued v = rules.Valued (items v.value) v.tag v.way
+valued v = rules.Valued (items v.value) v.tag (way_number v.way)
 
 abbrev pub read_answer : ReadAnswer → Answer
 read_answer (Given v) = valued v
@@ -32,7 +32,7 @@ asked_said told (Ok o) q = local (told o.number) q (Some (meaning o.question))
 asked_said told (Err e) q = local (Refused e) q None
 
 -- a read, and the server after it
-abbrev pub read_said : Result ReadTurn Refusal → Server → Local
+abbrev pub read_said : Result (Turn ReadAnswer) Refusal → Server → Local
 read_said (Ok t) q = local (read_answer t.answer) q (option_map meaning t.news)
 read_said (Err e) q = local (Refused e) q None
 
@@ -45,8 +45,8 @@ encoded_number encoded.Decoded = 3
 encoded_number encoded.Asked = 4
 
 -- an encode, and the server after it
-abbrev pub encode_said : Result EncodeTurn Refusal → Server → Local
-encode_said (Ok t) q = local (Outcome (encoded_number t.outcome)) q (option_map meaning t.news)
+abbrev pub encode_said : Result (Turn Encoded) Refusal → Server → Local
+encode_said (Ok t) q = local (Outcome (encoded_number t.answer)) q (option_map meaning t.news)
 encode_said (Err e) q = local (Refused e) q None
 
 abbrev pub collect_answer : CollectAnswer → Answer

@@ -4,5 +4,6 @@
 pub mod asking;
 pub mod encoding;
 pub mod reading;
+pub mod shares;
 pub mod turns;
 pub mod within;

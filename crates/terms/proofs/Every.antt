@@ -1,5 +1,8 @@
 -- A test of each number below n. Assumes nothing.
-use Rattle.std.proofs.Common.{◌≡◌, ℕ, zero, suc, ◌+◌, ◌<◌, Bool, true, ◌&&◌, refl, ap, ◌∙◌, ap₂, inl, inr, not-suc-le-zero, add-one, arith}
+use Rattle.std.proofs.Common.{◌≡◌, ℕ, zero, suc, ◌+◌, ◌<◌, Bool, true, false, ◌&&◌, [], ◌∷◌, map, sym, refl, ap, ◌∙◌, ap₂, inl, inr, not-suc-le-zero, add-one, zero-add, arith}
+use Rattle.std.specs.List.{list_all, range_with_len}
+use Rattle.std.proofs.lemmas.List.Folds.{list_all-map, list_all-append}
+use Rattle.std.proofs.lemmas.List.FromFn.{map-range_with_len_more}
 use Rattle.std.proofs.lemmas.Bool.{cases_eq}
 use Rattle.terms.specs.Lists.{every}
 use Rattle.terms.proofs.Tests.{and_left, and_right}
@@ -26,3 +29,20 @@ pub every_all : (n : ℕ) (f : ℕ → Bool) → ((k : ℕ) → k < n → f k �
 unfolding every
 every_all zero f t = refl
 every_all (suc n) f t = ap₂ ◌&&◌ (every_all n f (λ k h. t k (omega arith))) (t n (omega arith))
+
+and_true : (b : Bool) → (b && true) ≡ b
+and_true true = refl
+and_true false = refl
+
+-- the test of each number below n, as a test of each item of the list of them
+pub every_listed : (n : ℕ) (f : ℕ → Bool) → every n f ≡ list_all f (range_with_len 0 n)
+unfolding every
+every_listed zero f = refl
+every_listed (suc n) f =
+    let more = map-range_with_len_more f 0 n n (zero-add n) in
+    let items = range_with_len 0 n in
+    ap₂ ◌&&◌ (every_listed n f ∙ sym (list_all-map (λ b. b) f items)) (sym (and_true (f n)))
+    ∙ sym (list_all-append (λ b. b) (map f items) (f n ∷ []))
+    ∙ ap (list_all (λ b. b)) (sym more)
+    ∙ list_all-map (λ b. b) f (range_with_len 0 (n + 1))
+    ∙ ap (λ m. list_all f (range_with_len 0 m)) (add-one n)

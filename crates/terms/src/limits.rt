@@ -1,20 +1,23 @@
 // The bounds of a group. specs/Limits.antt has the same numbers for contracts.
 
-// A group has 2 to 6 servers,
+// The fewest and the most servers of a group.
 pub const MIN_SERVERS: usize = 2;
 
 pub const MAX_SERVERS: usize = 6;
-// 1 to 6 objects,
+
+// The fewest and the most objects of a group.
 pub const MIN_OBJECTS: usize = 1;
 
 pub const MAX_OBJECTS: usize = 6;
-// and values of 1 to 16 cells.
+
+// The fewest and the most cells of a value.
 pub const MIN_CELLS: usize = 1;
 
 pub const MAX_CELLS: usize = 16;
 
-// A code's table has a row of coefficients for each server.
-pub const MAX_TABLE: usize = 36;
+// A code's table has a coefficient for each server and each object.
+pub const MAX_TABLE: usize = MAX_SERVERS * MAX_OBJECTS;
+
 // Servers and objects are numbered from 0.
 pub const LAST_SERVER: u32 = (MAX_SERVERS - 1) as u32;
 

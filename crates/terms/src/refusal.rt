@@ -8,30 +8,30 @@ use std::fmt;
 #[derive(Clone, Copy, PartialEq, Eq, Debug)]
 pub enum Refusal {
     // Layout.
-    ServersOutOfBounds,
-    ObjectsOutOfBounds,
-    CellsOutOfBounds,
-    NoTable,
-    ObjectNotRecovered,
-    NoMemory,
+    ServersOutOfBounds = 1,
+    ObjectsOutOfBounds = 2,
+    CellsOutOfBounds = 3,
+    NoTable = 4,
+    ObjectNotRecovered = 5,
+    NoMemory = 6,
     // The client.
-    NoSuchServer,
-    NoSuchObject,
-    WrongLength,
-    NoSuchRead,
-    NoElement,
+    NoSuchServer = 7,
+    NoSuchObject = 8,
+    WrongLength = 9,
+    NoSuchRead = 10,
+    NoElement = 11,
     // The lanes.
-    EqualEnds,
-    LaneEmpty,
+    EqualEnds = 12,
+    LaneEmpty = 13,
     // The load.
-    NumbersUsedUp,
-    HistoryFull,
-    ReadsFull,
-    LaneFull,
-    WaitingFull,
+    NumbersUsedUp = 14,
+    HistoryFull = 15,
+    ReadsFull = 16,
+    LaneFull = 17,
+    WaitingFull = 18,
     // Bytes. The other numbers of bytes are faults, told with the place where they lie.
-    OutOfRange,
-    PlaceTooShort,
+    OutOfRange = 23,
+    PlaceTooShort = 25,
 }
 
 impl Refusal {
@@ -39,28 +39,7 @@ impl Refusal {
     pub fn number(self) -> u8
         ensures numbered { result ≡ number_of self }
     {
-        match self {
-            Refusal::ServersOutOfBounds => 1,
-            Refusal::ObjectsOutOfBounds => 2,
-            Refusal::CellsOutOfBounds => 3,
-            Refusal::NoTable => 4,
-            Refusal::ObjectNotRecovered => 5,
-            Refusal::NoMemory => 6,
-            Refusal::NoSuchServer => 7,
-            Refusal::NoSuchObject => 8,
-            Refusal::WrongLength => 9,
-            Refusal::NoSuchRead => 10,
-            Refusal::NoElement => 11,
-            Refusal::EqualEnds => 12,
-            Refusal::LaneEmpty => 13,
-            Refusal::NumbersUsedUp => 14,
-            Refusal::HistoryFull => 15,
-            Refusal::ReadsFull => 16,
-            Refusal::LaneFull => 17,
-            Refusal::WaitingFull => 18,
-            Refusal::OutOfRange => 23,
-            Refusal::PlaceTooShort => 25,
-        }
+        self as u8
     }
 }
 

@@ -3,7 +3,7 @@ use Rattle.std.specs.Prelude.{ℕ, zero, suc, ◌+◌, Bool, cond, List, map, No
 use Rattle.terms.specs.Items.{items}
 pub use Rattle.reads.specs.Places.{Inside}
 use Rattle.rules.specs.State as rules
-use Rattle.rules.specs.Words.{every}
+use Rattle.terms.specs.Lists.{every}
 use Rattle.rules.specs.Writing.{write_at, better}
 use Rattle.waiting.specs.declared.waiting.Waiting.{Waiting}
 use Rattle.waiting.specs.declared.waiting.Queue.{Queue}

@@ -1,8 +1,7 @@
 // The writes of other servers that wait to be applied.
-ghost use Rattle.std.specs.Prelude.{◌≡◌, ℕ, ◌<◌, ◌≤◌, true, length, vec_capacity, slice_index};
+ghost use Rattle.std.specs.Prelude.{ℕ, ◌<◌, ◌≤◌, vec_capacity, slice_index};
 ghost use Rattle.terms.specs.Items.{items};
 ghost use Rattle.terms.specs.Limits.{max_waiting, max_servers, max_count};
-ghost use Rattle.message.specs.Ranges.{tag_ok};
 
 use message::kinds::Clock;
 use message::tag::Tag;
@@ -20,8 +19,6 @@ pub struct Waiting {
     pub clock: Clock,
     ghost counts_in_range: { (j : ℕ) → slice_index (items clock) j ≤ max_count },
     ghost known: { tag.server < max_servers },
-    ghost tag_in_range: { tag_ok tag ≡ true },
-    ghost some_cells: { 1 ≤ length (items value) },
 }
 
 // The room for all waiting writes is reserved when the queue is made.

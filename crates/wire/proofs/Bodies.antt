@@ -1,12 +1,16 @@
 -- The bodies of the messages, there and back. Assumes nothing.
-use Rattle.std.proofs.Common.{◌≡◌, ℕ, ◌<◌, ◌≤◌, true, cond, eqb, List, [], ◌∷◌, ◌++◌, Ok, Result, sym, refl, ap, ◌∙◌, subst, ⊎_elim, append_assoc, arith}
-use Rattle.std.proofs.lemmas.Bool.{leb-true, and_from, and_parts, eqb-true, cases_Bool}
+use Rattle.std.proofs.Common.{◌≡◌, ℕ, ◌<◌, ◌≤◌, true, false, cond, eqb, List, [], ◌∷◌, ◌++◌, Ok, Err, Result, ◌≢◌, sym, refl, ap, ◌∙◌, subst, ⊎_elim, append_assoc, arith}
+use Rattle.std.proofs.lemmas.Bool.{leb-true, and_from, and_parts, eqb-true, ne_eqb, cond-false, cases_Bool}
 use Rattle.message.specs.declared.tag.Tag.{Tag}
 use Rattle.message.specs.Meanings.{Meaning, write_notice, tag_notice, question, plain_reply, coded_reply}
 use Rattle.terms.specs.Limits.{min_servers, max_servers, last_server, min_objects, max_objects, last_object, max_height, max_count, max_read}
-use Rattle.terms.specs.Lists.{each}
+use Rattle.std.specs.List.{list_all}
 use Rattle.message.specs.Ranges.{between, object_ok, height_ok, read_ok, count_ok, tag_ok, cells_ok, clock_ok, tags_ok, in_range}
 use Rattle.wire.specs.declared.faults.MessageFault.{MessageFault}
+use Rattle.wire.specs.declared.faults.MessageFault.TheVariants.{UnknownKind}
+use Rattle.wire.specs.declared.kind.Kind.{Kind}
+use Rattle.wire.specs.declared.kind.Kind.TheVariants.{WriteNotice, TagNotice, Question, PlainReply, CodedReply}
+use Rattle.wire.specs.Kinds.{kind_number}
 use Rattle.wire.specs.Reading.{number, tag, opaque, clock, tags, ranged, up, write_body, notice_body, question_body, plain_body, coded_body, by_kind, body, start}
 use Rattle.wire.specs.Writing.{tag_bytes, opaque_bytes, counted_bytes, body_bytes}
 use Rattle.wire.proofs.Codec.{Codec, number_codec, tag_codec, ranged_codec, up_codec, Numbered, Each, ok_same, ok_err, seq_there, last_there, seq_back}
@@ -27,11 +31,11 @@ numbered t h =
 tag_in : Codec (ranged tag_ok tag) tag_bytes (λ t. tag_ok t ≡ true)
 tag_in = ranged_codec tag tag_bytes Numbered tag_ok tag_codec (λ t h. numbered t h)
 
-each_count : (l : List ℕ) → each count_ok l ≡ true → Each number four _ number_codec l
+each_count : (l : List ℕ) → list_all count_ok l ≡ true → Each number four _ number_codec l
 each_count [] h = tt
 each_count (x ∷ l) h = let p = and_parts _ _ h in let le : x ≤ max_count = leb-true _ _ p.0 in (omega arith, each_count l p.1)
 
-each_tag : (l : List Tag) → each tag_ok l ≡ true → Each tag tag_bytes _ tag_codec l
+each_tag : (l : List Tag) → list_all tag_ok l ≡ true → Each tag tag_bytes _ tag_codec l
 each_tag [] h = tt
 each_tag (x ∷ l) h = let p = and_parts _ _ h in (numbered x p.0, each_tag l p.1)
 
@@ -152,3 +156,13 @@ body_back e xs m ys h is =
     let p = seq_back _ _ _ (up_codec number four _ number_codec) e (λ kind zs. by_kind kind (start e xs) e zs) xs (m, ys) h is in
     let b = kind_back e p.1 m ys p.4 p.0 (start e xs) p.5 in
     (p.2 ∙ b.0, b.1)
+
+-- a number that is no kind's
+pub no_kind : (n o e : ℕ) (ys : List ℕ) → ((kind : Kind) → kind_number kind ≢ n) → by_kind n o e ys ≡ Err (UnknownKind o)
+no_kind n o e ys none =
+    let other : (kind : Kind) → eqb n (kind_number kind) ≡ false = λ kind. ne_eqb _ _ (λ is. none kind (sym is)) in
+    cond-false _ _ _ (other WriteNotice)
+    ∙ cond-false _ _ _ (other TagNotice)
+    ∙ cond-false _ _ _ (other Question)
+    ∙ cond-false _ _ _ (other PlainReply)
+    ∙ cond-false _ _ _ (other CodedReply)

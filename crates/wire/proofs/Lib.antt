@@ -2,8 +2,6 @@ pub mod Bodies
 pub mod Codec
 pub mod Fields
 pub mod Figures
-pub mod Four
 pub mod Many
-pub mod Opaque
 pub mod Puts
 pub mod Whole

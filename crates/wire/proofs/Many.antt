@@ -1,5 +1,5 @@
 -- A loop that reads items one behind another. Assumes nothing.
-use Rattle.std.proofs.Common.{◌≡◌, ℕ, suc, ◌+◌, ◌-◌, ◌*◌, ◌<◌, ◌≤◌, List, [], ◌∷◌, ◌++◌, length, Ok, Err, Result, sym, refl, ap, ◌∙◌, append_assoc, append-nil, arith}
+use Rattle.std.proofs.Common.{◌≡◌, ℕ, suc, ◌+◌, ◌-◌, ◌*◌, ◌<◌, ◌≤◌, List, [], ◌∷◌, ◌++◌, length, Ok, Err, Result, sym, refl, ap, ◌∙◌, append_assoc, append-nil, arith, true, subst, is_le, nat_cmp}
 use Rattle.std.proofs.lemmas.Bool.{le-ltb, le-leb, and_from, cond-true, cond-false}
 use Rattle.wire.specs.declared.faults.FieldFault.{FieldFault}
 use Rattle.wire.specs.Reading.{bind, many, counted, items_of, number, start}
@@ -30,16 +30,16 @@ module _ {A F : Type 0} (f : ℕ → List ℕ → Result (A × List ℕ) F) (e n
   pub many_done : n ≤ i → whole ≡ Ok (done, xs)
   many_done h = let none : n - i ≡ 0 = omega arith in inv ∙ ap (λ k. after done (many f e k xs)) none ∙ ap (λ l. Ok (l, xs)) (append-nil done)
 
-empty : {A F : Type 0} (r : Result (List A × List ℕ) F) → r ≡ after [] r
-empty (Ok p) = refl
-empty (Err g) = refl
-
-pub many_start : {A F : Type 0} (f : ℕ → List ℕ → Result (A × List ℕ) F) (e n : ℕ) (xs : List ℕ) (done : List A) → done ≡ [] → many f e n xs ≡ after done (many f e (n - 0) xs)
-many_start f e n xs done none = let same : n ≡ n - 0 = omega arith in ap (λ k. many f e k xs) same ∙ empty (many f e (n - 0) xs) ∙ ap (λ l. after l (many f e (n - 0) xs)) (sym none)
-
 pub counted_is : {A : Type 0} (low high size : ℕ) (f : ℕ → List ℕ → Result (A × List ℕ) FieldFault) (e n : ℕ) (xs ys : List ℕ) → number e xs ≡ Ok (n, ys) → n * size ≤ length ys → low ≤ n → n ≤ high → (e' : ℕ) → e' ≡ e → counted low high size f e xs ≡ many f e' n ys
 counted_is low high size f e n xs ys is room l h e' same =
     ap (λ r. bind r (items_of low high size f e (start e xs))) is
     ∙ cond-false _ _ _ (le-ltb _ _ room)
     ∙ cond-true _ _ _ (and_from _ _ (le-leb _ _ l) (le-leb _ _ h))
     ∙ ap (λ k. many f k n ys) (sym same)
+
+-- what the tests of the code say
+pub within : (a b n low high : ℕ) → is_le (nat_cmp a n) ≡ true → is_le (nat_cmp n b) ≡ true → a ≡ low → b ≡ high → (low ≤ n) × (n ≤ high)
+within a b n low high x y p q = (grind arith, grind arith)
+
+pub room_of : (n s size long : ℕ) → n * s ≤ long → s ≡ size → n * size ≤ long
+room_of n s size long h is = subst (λ k. n * k ≤ long) is h

@@ -1,14 +1,12 @@
 -- One write behind another. Assumes nothing.
-use Rattle.std.proofs.Common.{◌≡◌, ℕ, zero, suc, ◌+◌, ◌-◌, ◌<◌, ◌≤◌, List, [], ◌∷◌, ◌++◌, length, get_or, take, drop, replicate, sym, refl, ap, ◌∙◌, append_assoc, arith, length-append, length-take}
-use borrow.Rule.Slice.PartMut.{put_mid, post_of}
-use Rattle.std.proofs.lemmas.List.{take_more, take_all, take_at, drop_at, drop-drop, flat_map_more, take-replicate}
-use Rattle.std.proofs.lemmas.Slice.{take-put_mid}
+use Rattle.std.proofs.Common.{◌≡◌, ℕ, zero, suc, ◌+◌, ◌-◌, ◌<◌, ◌≤◌, List, [], ◌∷◌, ◌++◌, length, get_or, take, replicate, sym, refl, ap, ◌∙◌, append_assoc, arith, length-append, length-take}
+use Rattle.std.proofs.lemmas.List.{take_more, flat_map_more, take-replicate}
 use Rattle.std.specs.List.{flat_map}
 use Rattle.terms.specs.declared.bounded.Bounded.{Bounded}
 use Rattle.terms.specs.Items.{items}
 use Rattle.terms.specs.Limits.{max_cells}
-use Rattle.wire.specs.Words.{four, padded, last_fragment}
-use Rattle.wire.specs.Writing.{opaque_bytes, marked}
+use Rattle.wire.specs.Words.{four, padded}
+use Rattle.wire.specs.Writing.{opaque_bytes}
 
 -- a bounded list has at most so many items
 pub few_items : {A : Type 0} {most : ℕ} (b : Bounded A most) → length (items b) ≤ most
@@ -19,9 +17,6 @@ two o p r x y a b = b ∙ ap (λ l. l ++ y) a ∙ append_assoc o x y
 
 pub next : {A : Type 0} (f : A → List ℕ) (o p r : List ℕ) (l : List A) (i : ℕ) (d : A) → i < length l → p ≡ o ++ flat_map f (take i l) → r ≡ p ++ f (get_or l i d) → r ≡ o ++ flat_map f (take (i + 1) l)
 next f o p r l i d h a b = b ∙ ap (λ k. k ++ f (get_or l i d)) a ∙ flat_map_more f o (take i l) (get_or l i d) ∙ ap (λ k. o ++ flat_map f k) (sym (take_more l i d h))
-
-pub all : {A : Type 0} (f : A → List ℕ) (o q p x : List ℕ) (l : List A) (i : ℕ) → length l ≤ i → q ≡ o ++ x → p ≡ q ++ flat_map f (take i l) → p ≡ o ++ (x ++ flat_map f l)
-all f o q p x l i h a b = two o q p x (flat_map f l) a (b ∙ ap (λ k. q ++ flat_map f k) (take_all i l h))
 
 -- the items up to i, and the next, are not longer than all
 joined_front : {A : Type 0} (f : A → List ℕ) (l : List A) (k : ℕ) → length (flat_map f (take k l)) ≤ length (flat_map f l)
@@ -36,35 +31,8 @@ next_fits f o p l i d most h a room =
     let e : r ≡ o ++ flat_map f (take (i + 1) l) = next f o p r l i d h a refl in
     omega (arith, ap length e, length-append p (f (get_or l i d)), length-append o (flat_map f (take (i + 1) l)), joined_front f l (i + 1))
 
--- bytes written behind the first i
-pub put_more : (xs more mid : List ℕ) (i : ℕ) → mid ≡ more → i + length more ≤ length xs → take (i + length more) (put_mid i (i + length more - i) xs mid) ≡ take i xs ++ more
-put_more xs more mid i is room =
-    let long : i + length more ≡ i + length mid = ap (λ l. i + length l) (sym is) in
-    let low : i ≤ length xs = omega arith in
-    take-put_mid i (i + length more - i) xs mid (i + length more) long low ∙ ap (λ l. take i xs ++ l) is
-
 pub opaque_put : (o p q r v s : List ℕ) (n k : ℕ) → n ≡ length v → length v ≤ max_cells → s ≡ v → k ≡ padded n - n - 0 → p ≡ o ++ four n → q ≡ p ++ s → r ≡ q ++ take k (0 ∷ 0 ∷ 0 ∷ []) → r ≡ o ++ opaque_bytes v
 opaque_put o p q r v s n k is small same cut a b c =
     let few : k ≤ 3 = omega arith in
     let kn : k ≡ padded (length v) - length v = cut ∙ ap (λ m. padded m - m - 0) is ∙ omega arith in
     two o p r (four (length v)) (v ++ replicate (padded (length v) - length v) 0) (a ∙ ap (λ m. o ++ four m) is) (two p q r v _ (b ∙ ap (λ l. p ++ l) same) (c ∙ ap (λ l. q ++ l) (take-replicate k 3 0 few ∙ ap (λ m. replicate m 0) kn)))
-
-pub recorded : (body xs m b : List ℕ) → m ≡ four (last_fragment + length body) → b ≡ body → put_mid 4 (4 + length body - 4) (m ++ post_of 0 4 xs) b ≡ marked body ++ drop (4 + length body) xs
-recorded body xs m b is same =
-    let front : length m ≡ 4 = ap length is in
-    let n : ℕ = length body in
-    let k : 4 + n - 4 ≡ n = omega arith in
-    let sum : n + 4 ≡ 4 + n = omega arith in
-    (λ i. take_at m (post_of 0 4 xs) 4 front i ++ (same i ++ drop (k i) (drop_at m (post_of 0 4 xs) 4 front i)))
-    ∙ ap (λ l. m ++ (body ++ l)) (drop-drop n 4 xs)
-    ∙ sym (append_assoc m body (drop (4 + n) xs))
-    ∙ ap (λ l. (l ++ body) ++ drop (4 + n) xs) is
-
-pub chain3 : (o p q r a b c : List ℕ) → o ≡ [] → p ≡ o ++ a → q ≡ p ++ b → r ≡ q ++ c → r ≡ a ++ (b ++ c)
-chain3 o p q r a b c none x y z = two o p r a (b ++ c) x (two p q r b c y z) ∙ ap (λ l. l ++ (a ++ (b ++ c))) none
-
-pub chain4 : (o p q r s a b c d : List ℕ) → o ≡ [] → p ≡ o ++ a → q ≡ p ++ b → r ≡ q ++ c → s ≡ r ++ d → s ≡ a ++ (b ++ (c ++ d))
-chain4 o p q r s a b c d none x y z w = chain3 o p q s a b (c ++ d) none x y (two q r s c d z w)
-
-pub chain5 : (o p q r s t a b c d e : List ℕ) → o ≡ [] → p ≡ o ++ a → q ≡ p ++ b → r ≡ q ++ c → s ≡ r ++ d → t ≡ s ++ e → t ≡ a ++ (b ++ (c ++ (d ++ e)))
-chain5 o p q r s t a b c d e none x y z w v = chain4 o p q r t a b c (d ++ e) none x y z (two r s t d e w v)

@@ -2,11 +2,10 @@
 use Rattle.std.proofs.Common.{◌≡◌, ℕ, zero, suc, ◌+◌, ◌-◌, ◌*◌, ◌/◌, ◌%◌, ◌<◌, ◌≤◌, true, ◌&&◌, leb, List, [], ◌∷◌, ◌++◌, length, get_or, take, drop, replicate, Ok, Err, Result, sym, refl, ap, ◌∙◌, subst, append-nil, add-mul, one-mul, add-one, arith, length-append}
 use Rattle.std.proofs.lemmas.List.{take_at, take-append-drop, length-take-le, length-replicate, nil_from_length}
 use Rattle.std.proofs.lemmas.Bool.{leb-true, le-ltb, ltb-false, and_parts, eqb-true, cond-false}
-use Rattle.std.specs.List.{flat_map}
+use Rattle.std.specs.List.{flat_map, list_all}
 use Rattle.message.specs.declared.tag.Tag.{Tag}
 use Rattle.message.specs.Meanings.{Meaning, meaning, write_notice, tag_notice, question, plain_reply, coded_reply}
 use Rattle.terms.specs.Limits.{min_cells, max_cells, min_servers, max_servers, min_objects, max_objects, max_body_bytes}
-use Rattle.terms.specs.Lists.{each}
 use Rattle.message.specs.Ranges.{in_range, between, object_ok, height_ok, read_ok, count_ok, tag_ok, cells_ok, clock_ok, tags_ok}
 use Rattle.wire.specs.declared.faults.MarkFault.{MarkFault}
 use Rattle.wire.specs.declared.faults.MessageFault.{MessageFault}
@@ -34,10 +33,10 @@ value_long : (v : List ℕ) → cells_ok v ≡ true → length v ≤ max_cells
 value_long v h = leb-true _ _ (and_parts (leb min_cells (length v)) (leb (length v) max_cells) h).1
 
 clock_long : (c : List ℕ) → clock_ok c ≡ true → length c ≤ max_servers
-clock_long c h = leb-true _ _ (and_parts (leb min_servers (length c)) (leb (length c) max_servers) (and_parts (between min_servers max_servers (length c)) (each count_ok c) h).0).1
+clock_long c h = leb-true _ _ (and_parts (leb min_servers (length c)) (leb (length c) max_servers) (and_parts (between min_servers max_servers (length c)) (list_all count_ok c) h).0).1
 
 tags_long : (ts : List Tag) → tags_ok ts ≡ true → length ts ≤ max_objects
-tags_long ts h = leb-true _ _ (and_parts (leb min_objects (length ts)) (leb (length ts) max_objects) (and_parts (between min_objects max_objects (length ts)) (each tag_ok ts) h).0).1
+tags_long ts h = leb-true _ _ (and_parts (leb min_objects (length ts)) (leb (length ts) max_objects) (and_parts (between min_objects max_objects (length ts)) (list_all tag_ok ts) h).0).1
 
 pub short : (m : Meaning) → in_range m ≡ true → length (body_bytes m) ≤ max_body_bytes
 short (write_notice o v k c) h =

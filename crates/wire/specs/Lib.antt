@@ -2,6 +2,7 @@ pub mod Bodies
 pub mod Exact
 pub mod Examples
 pub mod Faults
+pub mod Kinds
 pub mod Placed
 pub mod Reading
 pub mod Words

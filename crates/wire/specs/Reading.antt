@@ -1,10 +1,9 @@
 -- What a list of bytes is read as: the mark, then each field in order, then the end. Assumes nothing.
 use Rattle.std.specs.Prelude.{◌≡◌, ℕ, zero, suc, ◌+◌, ◌-◌, ◌*◌, ◌%◌, Bool, cond, List, [], ◌∷◌, length, take, drop, Ok, Err, Result, ◌==◌, nat_eq, nat_lt}
 use Rattle.std.specs.Borrow.{Bor}
-use Rattle.std.specs.List.{between as part}
+use Rattle.std.specs.List.{between as part, list_all}
 use Rattle.terms.specs.Limits.{min_cells, max_cells, min_servers, max_servers, min_objects, max_objects, mark_bytes}
 use Rattle.message.specs.Meanings.{Meaning, meaning, write_notice, tag_notice, question, plain_reply, coded_reply}
-use Rattle.terms.specs.Lists.{each}
 use Rattle.message.specs.Ranges.{between, object_ok, height_ok, read_ok, tag_ok, clock_ok, tags_ok}
 use Rattle.message.specs.declared.kinds.Message.{Message}
 use Rattle.message.specs.declared.tag.Tag.{Tag}
@@ -54,7 +53,7 @@ abbrev pub tag : ℕ → List ℕ → Result (Tag × List ℕ) FieldFault
 tag e xs = cond (nat_lt (length xs) 8) (Err (TooShort (start e xs))) (bind (number e xs) (λ height ys. bind (number e ys) (λ server zs. Ok (record { height = height; server = server }, zs))))
 
 abbrev pub zeros : List ℕ → Bool
-zeros = each (λ b. nat_eq b 0)
+zeros = list_all (λ b. nat_eq b 0)
 
 -- n bytes with padding of zeros, in a field that starts at byte o
 abbrev pub opaque_of : ℕ → ℕ → List ℕ → Result (List ℕ × List ℕ) FieldFault
@@ -151,10 +150,15 @@ Opened bytes (Err (Mark e)) = mark bytes ≡ Err e
 Opened bytes (Err (TooShort n)) = ⊥
 Opened bytes (Err (Malformed n)) = ⊥
 
--- that of the reader f, from a cursor as it was to the cursor as it is
+-- that of the reader f, from a cursor as it was to the cursor as it is, whose record ends where it did
 abbrev pub Reads : {A V F : Type 0} → (V → A) → (ℕ → List ℕ → Result (A × List ℕ) F) → Cursor → Cursor → Result V F → Type 0
-Reads means f before after (Ok v) = f before.end before.left.now ≡ Ok (means v, after.left.now)
-Reads means f before after (Err e) = f before.end before.left.now ≡ Err e
+Reads means f before after (Ok v) = (f before.end before.left.now ≡ Ok (means v, after.left.now)) × (after.end ≡ before.end)
+Reads means f before after (Err e) = (f before.end before.left.now ≡ Err e) × (after.end ≡ before.end)
+
+-- that of a field whose value is then tested, in a field that starts at byte o
+abbrev pub RangedBy : {V : Type 0} → (V → Bool → Type 0) → ℕ → Result V FieldFault → Result V MessageFault → Type 0
+RangedBy tests o (Ok v) r = (passed : Bool) × tests v passed × (r ≡ cond passed (Ok v) (Err (OutOfRange o)))
+RangedBy tests o (Err f) r = r ≡ Err (Field f)
 
 abbrev pub itself : {A : Type 0} → A → A
 itself x = x

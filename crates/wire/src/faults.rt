@@ -1,9 +1,10 @@
 // What is wrong with bytes that are read, by layers: the mark, a field, the message.
 ghost use Rattle.std.specs.Prelude.{◌≡◌};
-ghost use Rattle.wire.specs.Faults.{told, told_mark, told_field, told_message};
+ghost use Rattle.wire.specs.Faults.{told_mark, told_field, told_message};
 ghost use Rattle.wire.specs.declared.faults.FieldFault.TheVariants.{Mark};
 ghost use Rattle.wire.specs.declared.faults.MessageFault.TheVariants.{Field};
 
+use std::error::Error;
 use std::fmt;
 
 // A fault as it is told: its number, the byte at which its field starts, and its layer.
@@ -15,7 +16,7 @@ pub struct Told {
 }
 
 // Layer 1: the record's mark, which starts at byte 0.
-#[derive(Clone, Copy)]
+#[derive(Clone, Copy, PartialEq, Eq, Debug)]
 pub enum MarkFault {
     // fewer bytes than the mark has, or than it counts
     TooShort,
@@ -24,7 +25,7 @@ pub enum MarkFault {
 }
 
 // Layer 2: a field, or the mark below it. `at` is the byte at which the field starts.
-#[derive(Clone, Copy)]
+#[derive(Clone, Copy, PartialEq, Eq, Debug)]
 pub enum FieldFault {
     Mark(MarkFault),
     // the record ends within the field
@@ -34,7 +35,7 @@ pub enum FieldFault {
 }
 
 // Layer 3: the message, or a field below it.
-#[derive(Clone, Copy)]
+#[derive(Clone, Copy, PartialEq, Eq, Debug)]
 pub enum MessageFault {
     Field(FieldFault),
     UnknownKind { at: usize },
@@ -59,53 +60,62 @@ impl From<FieldFault> for MessageFault {
     }
 }
 
-impl Told {
-    fn of(number: u32, at: usize, layer: u32) -> Told
-        ensures made { result ≡ told number at layer }
-    {
-        Told { number, at, layer }
-    }
-}
+impl From<MarkFault> for Told {
+    ghost from_gives = { λ fault r. r ≡ told_mark fault };
 
-impl MarkFault {
-    pub fn told(self) -> Told
-        ensures told { result ≡ told_mark self }
-    {
-        match self {
-            MarkFault::TooShort => Told::of(19, 0, 1),
-            MarkFault::NotLast => Told::of(20, 0, 1),
+    fn from(fault: MarkFault) -> Told {
+        let number = match fault {
+            MarkFault::TooShort => 19,
+            MarkFault::NotLast => 20,
+        };
+        Told {
+            number,
+            at: 0,
+            layer: 1,
         }
     }
 }
 
-impl FieldFault {
-    pub fn told(self) -> Told
-        ensures told { result ≡ told_field self }
-    {
-        match self {
-            FieldFault::Mark(fault) => fault.told(),
-            FieldFault::TooShort { at } => Told::of(19, at, 2),
-            FieldFault::Malformed { at } => Told::of(21, at, 2),
+impl From<FieldFault> for Told {
+    ghost from_gives = { λ fault r. r ≡ told_field fault };
+
+    fn from(fault: FieldFault) -> Told {
+        let (number, at) = match fault {
+            FieldFault::Mark(fault) => return fault.into(),
+            FieldFault::TooShort { at } => (19, at),
+            FieldFault::Malformed { at } => (21, at),
+        };
+        Told {
+            number,
+            at,
+            layer: 2,
         }
     }
 }
 
-impl MessageFault {
-    pub fn told(self) -> Told
-        ensures told { result ≡ told_message self }
-    {
-        match self {
-            MessageFault::Field(fault) => fault.told(),
-            MessageFault::UnknownKind { at } => Told::of(22, at, 3),
-            MessageFault::OutOfRange { at } => Told::of(23, at, 3),
-            MessageFault::BytesLeft { at } => Told::of(24, at, 3),
+impl From<MessageFault> for Told {
+    ghost from_gives = { λ fault r. r ≡ told_message fault };
+
+    fn from(fault: MessageFault) -> Told {
+        let (number, at) = match fault {
+            MessageFault::Field(fault) => return fault.into(),
+            MessageFault::UnknownKind { at } => (22, at),
+            MessageFault::OutOfRange { at } => (23, at),
+            MessageFault::BytesLeft { at } => (24, at),
+        };
+        Told {
+            number,
+            at,
+            layer: 3,
         }
     }
 }
 
 impl fmt::Display for MessageFault {
     fn fmt<W: fmt::Write>(&self, f: &mut fmt::Formatter<W>) -> fmt::Result {
-        let Told { number, at, layer } = self.told();
+        let Told { number, at, layer } = Told::from(*self);
         write!(f, "fault {number} at byte {at}, layer {layer}")
     }
 }
+
+impl Error for MessageFault {}

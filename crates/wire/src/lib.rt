@@ -1,9 +1,11 @@
-// Messages as bytes: XDR (RFC 4506) in one record of one fragment (RFC 5531).
+// Messages as bytes: XDR, in one record of one fragment.
 #![tactic(auto)]
 
 mod body;
 mod cursor;
 pub mod faults;
+mod item;
+pub mod kind;
 mod mark;
 pub mod read;
 pub mod write;

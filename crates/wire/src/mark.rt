@@ -17,7 +17,7 @@ pub fn body(bytes: &[u8]) -> Result<&[u8], MarkFault>
             if *a < 128 {
                 return Err(MarkFault::NotLast);
             }
-            Ok(&rest[0..n])
+            Ok(&rest[..n])
         }
         _ => Err(MarkFault::TooShort),
     }

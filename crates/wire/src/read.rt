@@ -7,11 +7,12 @@ ghost use Rattle.wire.specs.Exact.{Tells};
 ghost use Rattle.wire.specs.Reading.{number, tag, clock, tags, ranged, Reads, itself, write_body, notice_body, question_body, plain_body, coded_body, body, reading, ReadAs};
 
 use crate::cursor::Cursor;
-use crate::faults::*;
-use message::kinds::*;
+use crate::faults::MessageFault;
+use crate::kind::Kind;
+use message::kinds::{Clock, Message, Tags};
 use message::ranges::{clock_is_in_range, is_between, tag_is_in_range, tags_are_in_range};
 use message::tag::Tag;
-use terms::limits::*;
+use terms::limits::{LAST_OBJECT, MAX_HEIGHT, MAX_READ};
 
 // The message that the bytes begin with, and the number of bytes that it takes.
 pub fn read_message(bytes: &[u8]) -> Result<(Message, usize), MessageFault>
@@ -33,22 +34,20 @@ fn read_record(bytes: &[u8]) -> Result<(Message, usize), MessageFault>
 }
 
 fn message_in(c: &mut Cursor) -> Result<Message, MessageFault>
-    ensures end { c.new.end ≡ c.old.end }
     ensures reads { Reads meaning body c.old c.new result }
 {
     let at = c.at();
-    match c.number()? {
-        1 => write_notice_in(c),
-        2 => tag_notice_in(c),
-        3 => question_in(c),
-        4 => plain_reply_in(c),
-        5 => coded_reply_in(c),
-        _ => Err(MessageFault::UnknownKind { at }),
+    match Kind::try_from(c.number()?) {
+        Ok(Kind::WriteNotice) => write_notice_in(c),
+        Ok(Kind::TagNotice) => tag_notice_in(c),
+        Ok(Kind::Question) => question_in(c),
+        Ok(Kind::PlainReply) => plain_reply_in(c),
+        Ok(Kind::CodedReply) => coded_reply_in(c),
+        Err(_) => Err(MessageFault::UnknownKind { at }),
     }
 }
 
 fn write_notice_in(c: &mut Cursor) -> Result<Message, MessageFault>
-    ensures end { c.new.end ≡ c.old.end }
     ensures reads { Reads meaning write_body c.old c.new result }
 {
     let object = number_in(c, 0, LAST_OBJECT)?;
@@ -64,7 +63,6 @@ fn write_notice_in(c: &mut Cursor) -> Result<Message, MessageFault>
 }
 
 fn tag_notice_in(c: &mut Cursor) -> Result<Message, MessageFault>
-    ensures end { c.new.end ≡ c.old.end }
     ensures reads { Reads meaning notice_body c.old c.new result }
 {
     let object = number_in(c, 0, LAST_OBJECT)?;
@@ -73,7 +71,6 @@ fn tag_notice_in(c: &mut Cursor) -> Result<Message, MessageFault>
 }
 
 fn question_in(c: &mut Cursor) -> Result<Message, MessageFault>
-    ensures end { c.new.end ≡ c.old.end }
     ensures reads { Reads meaning question_body c.old c.new result }
 {
     let read = number_in(c, 1, MAX_READ)?;
@@ -83,7 +80,6 @@ fn question_in(c: &mut Cursor) -> Result<Message, MessageFault>
 }
 
 fn plain_reply_in(c: &mut Cursor) -> Result<Message, MessageFault>
-    ensures end { c.new.end ≡ c.old.end }
     ensures reads { Reads meaning plain_body c.old c.new result }
 {
     let read = number_in(c, 1, MAX_READ)?;
@@ -92,7 +88,6 @@ fn plain_reply_in(c: &mut Cursor) -> Result<Message, MessageFault>
 }
 
 fn coded_reply_in(c: &mut Cursor) -> Result<Message, MessageFault>
-    ensures end { c.new.end ≡ c.old.end }
     ensures reads { Reads meaning coded_body c.old c.new result }
 {
     let read = number_in(c, 1, MAX_READ)?;
@@ -107,49 +102,25 @@ fn coded_reply_in(c: &mut Cursor) -> Result<Message, MessageFault>
 
 // A number from `low` to `high`.
 fn number_in(c: &mut Cursor, low: u32, high: u32) -> Result<u32, MessageFault>
-    ensures end { c.new.end ≡ c.old.end }
     ensures reads { Reads itself (ranged (between low high) number) c.old c.new result }
 {
-    let at = c.at();
-    let n = c.number()?;
-    if !is_between(low, high, n) {
-        return Err(MessageFault::OutOfRange { at });
-    }
-    Ok(n)
+    c.ranged(|c| c.number(), |n| is_between(low, high, *n))
 }
 
 fn tag_in(c: &mut Cursor) -> Result<Tag, MessageFault>
-    ensures end { c.new.end ≡ c.old.end }
     ensures reads { Reads itself (ranged tag_ok tag) c.old c.new result }
 {
-    let at = c.at();
-    let t = c.tag()?;
-    if !tag_is_in_range(t) {
-        return Err(MessageFault::OutOfRange { at });
-    }
-    Ok(t)
+    c.ranged(|c| c.tag(), |tag| tag_is_in_range(*tag))
 }
 
 fn clock_in(c: &mut Cursor) -> Result<Clock, MessageFault>
-    ensures end { c.new.end ≡ c.old.end }
     ensures reads { Reads items (ranged clock_ok clock) c.old c.new result }
 {
-    let at = c.at();
-    let counts = c.clock()?;
-    if !clock_is_in_range(&counts) {
-        return Err(MessageFault::OutOfRange { at });
-    }
-    Ok(counts)
+    c.ranged(|c| c.clock(), clock_is_in_range)
 }
 
 fn tags_in(c: &mut Cursor) -> Result<Tags, MessageFault>
-    ensures end { c.new.end ≡ c.old.end }
     ensures reads { Reads items (ranged tags_ok tags) c.old c.new result }
 {
-    let at = c.at();
-    let tags = c.tags()?;
-    if !tags_are_in_range(&tags) {
-        return Err(MessageFault::OutOfRange { at });
-    }
-    Ok(tags)
+    c.ranged(|c| c.tags(), tags_are_in_range)
 }

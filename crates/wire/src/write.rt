@@ -8,10 +8,11 @@ ghost use Rattle.wire.specs.Placed.{Placed, room_refusal, write_refusal};
 ghost use Rattle.wire.specs.Writing.{body_bytes, marked, encode};
 
 use crate::body::Body;
-use message::kinds::*;
+use crate::kind::Kind;
+use message::kinds::{Clock, Message, Tags};
 use message::tag::Tag;
 use terms::bounded::Cells;
-use terms::limits::*;
+use terms::limits::MARK_BYTES;
 use terms::refusal::Refusal;
 
 // The highest bit of the mark: no other fragment follows.
@@ -37,7 +38,7 @@ fn put_record(body: &[u8], place: &mut [u8]) -> Result<usize, Refusal>
         return Err(Refusal::PlaceTooShort);
     }
     let mark = LAST_FRAGMENT + body.len() as u32;
-    place[0..MARK_BYTES].copy_from_slice(&mark.to_be_bytes());
+    place[..MARK_BYTES].copy_from_slice(&mark.to_be_bytes());
     place[MARK_BYTES..n].copy_from_slice(body);
     Ok(n)
 }
@@ -68,8 +69,7 @@ fn body_of(m: &Message) -> Body
 fn write_notice(object: u32, value: &Cells, height: u32, clock: &Clock) -> Body
     ensures written { body_so_far result ≡ body_bytes (write_notice object (items value.now) height (items clock.now)) }
 {
-    let mut out = Body::empty();
-    out.put_number(1);
+    let mut out = Body::of(Kind::WriteNotice);
     out.put_number(object);
     out.put_opaque(value);
     out.put_number(height);
@@ -80,8 +80,7 @@ fn write_notice(object: u32, value: &Cells, height: u32, clock: &Clock) -> Body
 fn tag_notice(object: u32, tag: Tag) -> Body
     ensures written { body_so_far result ≡ body_bytes (tag_notice object tag) }
 {
-    let mut out = Body::empty();
-    out.put_number(2);
+    let mut out = Body::of(Kind::TagNotice);
     out.put_number(object);
     out.put_tag(tag);
     out
@@ -90,8 +89,7 @@ fn tag_notice(object: u32, tag: Tag) -> Body
 fn question(read: u32, object: u32, tags: &Tags) -> Body
     ensures written { body_so_far result ≡ body_bytes (asking read object (items tags.now)) }
 {
-    let mut out = Body::empty();
-    out.put_number(3);
+    let mut out = Body::of(Kind::Question);
     out.put_number(read);
     out.put_number(object);
     out.put_list(tags.as_slice());
@@ -101,8 +99,7 @@ fn question(read: u32, object: u32, tags: &Tags) -> Body
 fn plain_reply(read: u32, value: &Cells) -> Body
     ensures written { body_so_far result ≡ body_bytes (plain_reply read (items value.now)) }
 {
-    let mut out = Body::empty();
-    out.put_number(4);
+    let mut out = Body::of(Kind::PlainReply);
     out.put_number(read);
     out.put_opaque(value);
     out
@@ -111,8 +108,7 @@ fn plain_reply(read: u32, value: &Cells) -> Body
 fn coded_reply(read: u32, symbol: &Cells, stated: &Tags) -> Body
     ensures written { body_so_far result ≡ body_bytes (coded_reply read (items symbol.now) (items stated.now)) }
 {
-    let mut out = Body::empty();
-    out.put_number(5);
+    let mut out = Body::of(Kind::CodedReply);
     out.put_number(read);
     out.put_opaque(symbol);
     out.put_list(stated.as_slice());

@@ -13,18 +13,15 @@ use terms::refusal::Refusal;
 fn numbered(read: u32) -> Result<Message, Fail> {
     Ok(Message::PlainReply {
         read,
-        value: cells(&[1, 2, 3])?,
+        value: list(0, &[1, 2, 3])?,
     })
 }
 
-// The read number of a plain reply, or 0.
-fn number_of(m: Result<Message, Refusal>) -> u32 {
+// The read number of a plain reply.
+fn number_of(m: Result<Message, Refusal>) -> Option<u32> {
     match m {
-        Ok(m) => match m {
-            Message::PlainReply { read, value: _ } => read,
-            _ => 0,
-        },
-        Err(_) => 0,
+        Ok(Message::PlainReply { read, .. }) => Some(read),
+        _ => None,
     }
 }
 
@@ -39,19 +36,19 @@ fn round<C: Carrier>(
     let places = c.places().min(16) as u32;
     assert!(rt; first < 1000);
     for i in 0..places {
-        assert_eq!(rt; refused(c.post(from, to, numbered(first + i)?)), 0);
-        assert_eq!(rt; number_of(c.first(from, to)), first);
+        assert_eq!(rt; refused(c.post(from, to, numbered(first + i)?)), None);
+        assert_eq!(rt; number_of(c.first(from, to)), Some(first));
     }
-    assert_eq!(rt; refused(c.post(from, to, numbered(first)?)), 17);
-    assert_eq!(rt; refused(c.post(from, to, numbered(0)?)), 17);
-    assert_eq!(rt; refused(c.len(to, from)), 0);
+    assert_eq!(rt; refused(c.post(from, to, numbered(first)?)), Some(17));
+    assert_eq!(rt; refused(c.post(from, to, numbered(0)?)), Some(17));
+    assert_eq!(rt; refused(c.len(to, from)), None);
     for i in 0..places {
-        assert_eq!(rt; number_of(c.first(from, to)), first + i);
-        assert_eq!(rt; number_of(c.take(from, to)), first + i);
+        assert_eq!(rt; number_of(c.first(from, to)), Some(first + i));
+        assert_eq!(rt; number_of(c.take(from, to)), Some(first + i));
     }
-    assert_eq!(rt; refused(c.first(from, to)), 13);
-    assert_eq!(rt; refused(c.take(from, to)), 13);
-    assert_eq!(rt; refused(c.post(from, to, numbered(0)?)), 23);
+    assert_eq!(rt; refused(c.first(from, to)), Some(13));
+    assert_eq!(rt; refused(c.take(from, to)), Some(13));
+    assert_eq!(rt; refused(c.post(from, to, numbered(0)?)), Some(23));
     Ok(())
 }
 
@@ -69,7 +66,7 @@ fn rounds<C: Carrier>(rt: &impl Abort, c: &mut C) -> Result<(), Fail> {
                 for turn in 0..3u32 {
                     round(rt, c, from, to, 1 + turn * 100)?;
                 }
-                assert_eq!(rt; refused(c.post(from, to, numbered(mark(from, to))?)), 0);
+                assert_eq!(rt; refused(c.post(from, to, numbered(mark(from, to))?)), None);
             }
         }
     }
@@ -83,8 +80,8 @@ fn left_over<C: Carrier>(rt: &impl Abort, c: &mut C) {
     for from in 0..n {
         for to in 0..n {
             if from != to {
-                assert_eq!(rt; number_of(c.take(from, to)), mark(from, to));
-                assert_eq!(rt; refused(c.first(from, to)), 13);
+                assert_eq!(rt; number_of(c.take(from, to)), Some(mark(from, to)));
+                assert_eq!(rt; refused(c.first(from, to)), Some(13));
             }
         }
     }
@@ -93,30 +90,25 @@ fn left_over<C: Carrier>(rt: &impl Abort, c: &mut C) {
 fn refusals<C: Carrier>(rt: &impl Abort, c: &mut C) -> Result<(), Fail> {
     let n = c.servers();
     assert!(rt; n < 7);
-    assert_eq!(rt; refused(c.post(n, n, numbered(0)?)), 7);
-    assert_eq!(rt; refused(c.post(0, n, numbered(1)?)), 7);
-    assert_eq!(rt; refused(c.post(1, 1, numbered(0)?)), 12);
-    assert_eq!(rt; refused(c.first(n, 0)), 7);
-    assert_eq!(rt; refused(c.first(1, 1)), 12);
-    assert_eq!(rt; refused(c.first(0, 1)), 13);
-    assert_eq!(rt; refused(c.take(0, n)), 7);
-    assert_eq!(rt; refused(c.take(0, 0)), 12);
-    assert_eq!(rt; refused(c.take(1, 0)), 13);
-    assert_eq!(rt; refused(c.len(n, n)), 7);
-    assert_eq!(rt; refused(c.len(0, 0)), 12);
+    assert_eq!(rt; refused(c.post(n, n, numbered(0)?)), Some(7));
+    assert_eq!(rt; refused(c.post(0, n, numbered(1)?)), Some(7));
+    assert_eq!(rt; refused(c.post(1, 1, numbered(0)?)), Some(12));
+    assert_eq!(rt; refused(c.first(n, 0)), Some(7));
+    assert_eq!(rt; refused(c.first(1, 1)), Some(12));
+    assert_eq!(rt; refused(c.first(0, 1)), Some(13));
+    assert_eq!(rt; refused(c.take(0, n)), Some(7));
+    assert_eq!(rt; refused(c.take(0, 0)), Some(12));
+    assert_eq!(rt; refused(c.take(1, 0)), Some(13));
+    assert_eq!(rt; refused(c.len(n, n)), Some(7));
+    assert_eq!(rt; refused(c.len(0, 0)), Some(12));
     Ok(())
 }
 
 fn through<P: Place>(rt: &impl Abort, heap: Global, n: usize, p: usize) -> Result<(), Fail> {
     let memory = blank_places::<P>(heap, 480)?;
-    match Blocks::new(n, p, memory) {
-        Ok(carrier) => {
-            let mut c = carrier;
-            refusals(rt, &mut c)?;
-            rounds(rt, &mut c)
-        }
-        Err(_) => Err(Fail::new("not laid")),
-    }
+    let mut carrier = Blocks::new(n, p, memory).map_err(|back| back.refusal)?;
+    refusals(rt, &mut carrier)?;
+    rounds(rt, &mut carrier)
 }
 
 #[test]

@@ -3,6 +3,7 @@ use crate::samples::*;
 use message::kinds::*;
 use std::process::Abort;
 use std::test::Fail;
+use wire::faults::Told;
 use wire::read::read_message;
 use wire::write::write_message;
 
@@ -15,16 +16,14 @@ fn reply(rt: &impl Abort, length: usize) -> Result<Message, Fail> {
     assert!(rt; length <= 16);
     Ok(Message::PlainReply {
         read: 1,
-        value: cells(&CELLS[0..length])?,
+        value: list(0, &CELLS[0..length])?,
     })
 }
 
-// The number of the fault that reading tells, or 0.
-fn fault(bytes: &[u8]) -> u32 {
-    match read_message(bytes) {
-        Ok(_) => 0,
-        Err(fault) => fault.told().number,
-    }
+// The number of the fault that reading tells.
+fn fault(bytes: &[u8]) -> Option<u32> {
+    let fault = read_message(bytes).err()?;
+    Some(Told::from(fault).number)
 }
 
 #[test]
@@ -33,13 +32,13 @@ fn values_of_every_length(rt: HostRuntime) -> Result<(), Fail> {
         let mut bytes = [0xff; ROOM];
         let n = write_message(&reply(&rt, length)?, &mut bytes)?;
         assert_eq!(rt; n, START + (length + 3) / 4 * 4);
-        assert_eq!(rt; fault(&bytes), 0);
+        assert_eq!(rt; fault(&bytes), None);
         for i in START + length..n {
             assert!(rt; i < ROOM);
             assert_eq!(rt; bytes[i], 0);
             let mut other = bytes;
             other[i] = 1;
-            assert_eq!(rt; fault(&other), 21);
+            assert_eq!(rt; fault(&other), Some(21));
         }
     }
     Ok(())
@@ -48,12 +47,15 @@ fn values_of_every_length(rt: HostRuntime) -> Result<(), Fail> {
 #[test]
 fn values_too_short_and_too_long(rt: HostRuntime) -> Result<(), Fail> {
     let mut bytes = [0; ROOM];
-    assert_eq!(rt; refused(write_message(&reply(&rt, 0)?, &mut bytes)), 23);
+    assert_eq!(rt;
+        refused(write_message(&reply(&rt, 0)?, &mut bytes)),
+        Some(23)
+    );
     let n = write_message(&reply(&rt, 16)?, &mut bytes)?;
     assert_eq!(rt; n, 32);
-    assert_eq!(rt; fault(&bytes), 0);
+    assert_eq!(rt; fault(&bytes), None);
     bytes[3] = 48;
     bytes[15] = 17;
-    assert_eq!(rt; fault(&bytes), 21);
+    assert_eq!(rt; fault(&bytes), Some(21));
     Ok(())
 }

@@ -2,83 +2,72 @@
 use message::kinds::*;
 use message::tag::Tag;
 use std::test::Fail;
-use terms::bounded::{Bounded, Cells};
+use terms::bounded::Bounded;
 use terms::refusal::Refusal;
+use wire::kind::Kind;
 
 // Room for the longest record, and some bytes behind it.
 pub const ROOM: usize = 88;
 
 pub type Bytes = [u8; ROOM];
 
-pub fn cells(all: &[u8]) -> Result<Cells, Fail> {
-    match Bounded::from_slice(0, all) {
-        Some(list) => Ok(list),
-        None => Err(Fail::new("too many cells")),
-    }
-}
+pub const ALL_KINDS: [Kind; 5] = [
+    Kind::WriteNotice,
+    Kind::TagNotice,
+    Kind::Question,
+    Kind::PlainReply,
+    Kind::CodedReply,
+];
 
-pub fn clock(all: &[u32]) -> Result<Clock, Fail> {
-    match Bounded::from_slice(0, all) {
-        Some(list) => Ok(list),
-        None => Err(Fail::new("too many counts")),
-    }
-}
-
-pub fn tags(all: &[Tag]) -> Result<Tags, Fail> {
-    match Bounded::from_slice(Tag::zero(), all) {
-        Some(list) => Ok(list),
-        None => Err(Fail::new("too many tags")),
-    }
+// The items as a bounded list; `fill` stands in the places that are left.
+pub fn list<T: Copy, const MAX: usize>(fill: T, items: &[T]) -> Result<Bounded<T, MAX>, Fail> {
+    Ok(Bounded::from_slice(fill, items).ok_or("too many items")?)
 }
 
 pub fn tag(height: u32, server: u32) -> Tag {
     Tag { height, server }
 }
 
-// By kind, from 1; 40, 20, 28, 20 and 32 bytes long.
-pub fn sample(kind: usize) -> Result<Message, Fail> {
-    match kind {
-        1 => Ok(Message::WriteNotice {
+// 40, 20, 28, 20 and 32 bytes long, in the order of the kinds.
+pub fn sample(kind: Kind) -> Result<Message, Fail> {
+    Ok(match kind {
+        Kind::WriteNotice => Message::WriteNotice {
             object: 0,
-            value: cells(&[100])?,
+            value: list(0, &[100])?,
             height: 1,
-            clock: clock(&[1, 0, 0])?,
-        }),
-        2 => Ok(Message::TagNotice {
+            clock: list(0, &[1, 0, 0])?,
+        },
+        Kind::TagNotice => Message::TagNotice {
             object: 0,
             tag: tag(1, 0),
-        }),
-        3 => Ok(Message::Question {
+        },
+        Kind::Question => Message::Question {
             read: 1,
             object: 0,
-            tags: tags(&[tag(1, 0)])?,
-        }),
-        4 => Ok(Message::PlainReply {
+            tags: list(Tag::zero(), &[tag(1, 0)])?,
+        },
+        Kind::PlainReply => Message::PlainReply {
             read: 1,
-            value: cells(&[7, 8, 9])?,
-        }),
-        _ => Ok(Message::CodedReply {
+            value: list(0, &[7, 8, 9])?,
+        },
+        Kind::CodedReply => Message::CodedReply {
             read: 1,
-            symbol: cells(&[5, 6])?,
-            stated: tags(&[tag(2, 1)])?,
-        }),
-    }
+            symbol: list(0, &[5, 6])?,
+            stated: list(Tag::zero(), &[tag(2, 1)])?,
+        },
+    })
 }
 
-pub fn length(kind: usize) -> usize {
+pub fn length(kind: Kind) -> usize {
     match kind {
-        1 => 40,
-        2 => 20,
-        3 => 28,
-        4 => 20,
-        _ => 32,
+        Kind::WriteNotice => 40,
+        Kind::TagNotice | Kind::PlainReply => 20,
+        Kind::Question => 28,
+        Kind::CodedReply => 32,
     }
 }
 
-// A refusal's number, or 0.
-pub fn refused<T: Drop>(r: Result<T, Refusal>) -> u8 {
-    match r {
-        Ok(_) => 0,
-        Err(e) => e.number(),
-    }
+// A refusal's number.
+pub fn refused<T: Drop>(r: Result<T, Refusal>) -> Option<u8> {
+    r.err().map(|refusal| refusal.number())
 }

@@ -1,9 +1,10 @@
-ghost use Rattle.std.specs.Prelude.{◌≡◌};
-ghost use Rattle.carrier.specs.Laid.{Laid};
+ghost use Rattle.std.specs.Prelude.{◌≡◌, ⊤};
+ghost use Rattle.terms.specs.Answers.{Answered};
+ghost use Rattle.carrier.specs.Laid.{Laid, layout_refusal};
 
 use super::{Blocks, NotLaid};
 use crate::place::Place;
-use terms::limits::*;
+use terms::limits::{MAX_LANES, MAX_PLACES, MAX_SERVERS, MIN_PLACES, MIN_SERVERS};
 use terms::refusal::Refusal;
 
 impl<P: Place> Blocks<P> {
@@ -11,16 +12,15 @@ impl<P: Place> Blocks<P> {
     pub fn new(n: usize, p: usize, memory: Vec<P>) -> Result<Blocks<P>, NotLaid<P>>
         ensures laid { Laid P.Place.held n p memory result }
     {
-        if n < MIN_SERVERS || n > MAX_SERVERS {
-            let refusal = Refusal::ServersOutOfBounds;
-            return Err(NotLaid { refusal, memory });
+        match check_layout(n, p, memory.len()) {
+            Ok(()) => Ok(Blocks {
+                n,
+                p,
+                memory,
+                used: [0; MAX_LANES],
+            }),
+            Err(refusal) => Err(NotLaid { refusal, memory }),
         }
-        if p < MIN_PLACES || p > MAX_PLACES || memory.len() < n * (n - 1) * p {
-            let refusal = Refusal::NoMemory;
-            return Err(NotLaid { refusal, memory });
-        }
-        let used = [0; MAX_LANES];
-        Ok(Blocks { n, p, memory, used })
     }
 
     // Takes the carrier apart, and gives the memory back.
@@ -35,4 +35,17 @@ impl<P: Place> Blocks<P> {
         } = self;
         memory
     }
+}
+
+// Refuses a carrier of n servers, with p places to a lane, that cannot be laid over so many places in all.
+fn check_layout(n: usize, p: usize, size: usize) -> Result<(), Refusal>
+    ensures answer { Answered (layout_refusal n p size) (λ _. ⊤) result }
+{
+    if !(MIN_SERVERS..=MAX_SERVERS).contains(&n) {
+        return Err(Refusal::ServersOutOfBounds);
+    }
+    if !(MIN_PLACES..=MAX_PLACES).contains(&p) || size < n * (n - 1) * p {
+        return Err(Refusal::NoMemory);
+    }
+    Ok(())
 }

@@ -5,9 +5,10 @@ ghost use Rattle.terms.specs.Items.{items};
 ghost use Rattle.terms.specs.Lists.{listed};
 ghost use Rattle.code.specs.Codings.{Values, combination, symbol, re_encoded, Turned, value_at};
 ghost use Rattle.code.specs.Meaning.{meaning};
-ghost use Rattle.code.specs.Refusing.{place_refusal, symbol_refusal, re_encode_refusal};
+ghost use Rattle.code.specs.Refusing.{symbol_refusal, re_encode_refusal};
 
 use super::Code;
+use crate::code::sums::sum;
 use field::interface::Field;
 use terms::bounded::Cells;
 use terms::refusal::Refusal;
@@ -17,12 +18,8 @@ impl<F: Field + Copy> Code<F> {
     pub fn symbol(&self, server: usize, values: &[Cells]) -> Result<Cells, Refusal>
         ensures combined_or_refused { Answered (symbol_refusal (meaning F.arithmetic self.now) server (map items values.now)) (λ v. items v ≡ symbol (meaning F.arithmetic self.now) server (value_at (map items values.now))) result }
     {
-        if server >= self.servers {
-            return Err(Refusal::NoSuchServer);
-        }
-        if let Some(refusal) = self.refuse_values(self.objects, values) {
-            return Err(refusal);
-        }
+        self.check_server(server)?;
+        self.check_values(self.objects, values)?;
         Ok(self.combine(server, values))
     }
 
@@ -31,11 +28,7 @@ impl<F: Field + Copy> Code<F> {
         requires { server < self.now.servers }
         ensures { items result ≡ symbol (meaning F.arithmetic self.now) server (value_at (map items values.now)) }
     {
-        let mut symbol = Cells::new(0);
-        for c in 0..self.cells {
-            symbol.push(self.combine_cell(server, values, c));
-        }
-        symbol
+        Cells::from_fn(0, self.cells, |c| self.combine_cell(server, values, c))
     }
 
     // One cell of the combination.
@@ -43,11 +36,9 @@ impl<F: Field + Copy> Code<F> {
         requires { server < self.now.servers }
         ensures { result ≡ combination (meaning F.arithmetic self.now) server (λ x. slice_index (value_at (map items values.now) x) c) }
     {
-        let mut sum = 0;
-        for x in 0..self.objects {
-            sum = F::add(sum, F::mul(self.at(server, x), cell_of(values, x, c)));
-        }
-        sum
+        sum::<F, _>(self.objects, |x| {
+            F::mul(self.at(server, x), cell_of(values, x, c))
+        })
     }
 
     // A server's symbol where the value of an object turns from old to new.
@@ -62,40 +53,13 @@ impl<F: Field + Copy> Code<F> {
         ensures re_encoded_or_refused { Answered (re_encode_refusal (meaning F.arithmetic self.now) server object (items symbol.now ∷ items old.now ∷ items new.now ∷ [])) (λ v. items v ≡ re_encoded (meaning F.arithmetic self.now) server object (items symbol.now) (items old.now) (items new.now)) result }
         ensures turns_the_symbol { IfOk result (λ t. Turned (meaning F.arithmetic self.now) server object (items symbol.now) (items old.now) (items new.now) (items t)) }
     {
-        if server >= self.servers {
-            return Err(Refusal::NoSuchServer);
-        }
-        if object >= self.objects {
-            return Err(Refusal::NoSuchObject);
-        }
-        if let Some(refusal) = self.refuse_values(3, &[*symbol, *old, *new]) {
-            return Err(refusal);
-        }
+        self.check_place(server, object)?;
+        self.check_values(3, &[*symbol, *old, *new])?;
         Ok(self.turned(server, object, symbol, old, new))
     }
 
-    // The same of any cells, whatever their number and size; past the end of a value they count as 0.
-    pub fn exchange(
-        &self,
-        server: usize,
-        object: usize,
-        symbol: &Cells,
-        old: &Cells,
-        new: &Cells,
-    ) -> Result<Cells, Refusal>
-        ensures re_encoded_or_refused { Answered (place_refusal (meaning F.arithmetic self.now) server object) (λ v. items v ≡ re_encoded (meaning F.arithmetic self.now) server object (items symbol.now) (items old.now) (items new.now)) result }
-    {
-        if server >= self.servers {
-            return Err(Refusal::NoSuchServer);
-        }
-        if object >= self.objects {
-            return Err(Refusal::NoSuchObject);
-        }
-        let exchanged = self.turned(server, object, symbol, old, new);
-        Ok(exchanged)
-    }
-
-    fn turned(
+    // The symbol after the turn, once the server and the object are known to be within.
+    pub(crate) fn turned(
         &self,
         server: usize,
         object: usize,
@@ -108,14 +72,10 @@ impl<F: Field + Copy> Code<F> {
         ensures { items result ≡ re_encoded (meaning F.arithmetic self.now) server object (items symbol.now) (items old.now) (items new.now) }
     {
         let coefficient = self.at(server, object);
-        let mut turned = Cells::new(0);
-        for c in 0..self.cells {
+        Cells::from_fn(0, self.cells, |c| {
             let cell = symbol.get_or(c, 0);
-            let before = old.get_or(c, 0);
-            let after = new.get_or(c, 0);
-            turned.push(turned_cell::<F>(coefficient, cell, before, after));
-        }
-        turned
+            turned_cell::<F>(coefficient, cell, old.get_or(c, 0), new.get_or(c, 0))
+        })
     }
 }
 
@@ -130,9 +90,5 @@ fn turned_cell<F: Field>(coefficient: u8, cell: u8, before: u8, after: u8) -> u8
 pub(crate) fn cell_of(values: &[Cells], x: usize, c: usize) -> u8
     ensures { result ≡ slice_index (value_at (map items values.now) x) c }
 {
-    if x < values.len() {
-        values[x].get_or(c, 0)
-    } else {
-        0
-    }
+    values.get(x).map_or(0, |v| v.get_or(c, 0))
 }

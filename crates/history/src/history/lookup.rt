@@ -1,10 +1,12 @@
 // What a history holds.
-ghost use Rattle.std.specs.Prelude.{◌≡◌, ℕ, ◌<◌, ◌≤◌, true, map, length, nat_lt};
+ghost use Rattle.std.specs.Prelude.{◌≡◌, ℕ, ◌<◌, ◌≤◌, Bool, true, map, length, nat_lt};
+ghost use Rattle.std.specs.Fn.{AlwaysReturns};
+ghost use Rattle.std.specs.List.{position_from};
 ghost use Rattle.terms.specs.Items.{items};
 ghost use Rattle.terms.specs.Limits.{max_entries};
-ghost use Rattle.rules.specs.Histories.{is_entry, holds, value_under, highest_held, zero_record};
+ghost use Rattle.rules.specs.Histories.{is_entry, holds, value_under, highest, highest_held, zero_record};
 ghost use Rattle.code.specs.Meaning.{meaning};
-ghost use Rattle.history.specs.Entries.{entry, entries, first, place_of, value_at, raises};
+ghost use Rattle.history.specs.Entries.{entry, entries, place_of, value_at, raises, rises};
 
 use super::{Entry, History};
 use code::code::Code;
@@ -18,14 +20,22 @@ impl Entry {
     pub(crate) fn is(&self, object: usize, tag: Tag) -> bool
         ensures { result ≡ is_entry object tag (entry self.now) }
     {
-        self.object == object && self.tag.equals(tag)
+        self.object == object && self.tag == tag
     }
 
     // Whether this is an entry of the object with a higher tag.
     fn raises(&self, object: usize, tag: Tag) -> bool
         ensures { result ≡ raises object tag (entry self.now) }
     {
-        self.object == object && tag.is_lower_than(self.tag)
+        self.object == object && tag < self.tag
+    }
+
+    // Whether this is an entry of the object with a higher tag that passes the test.
+    fn rises<F: Fn(Tag) -> bool>(&self, object: usize, tag: Tag, test: &F) -> bool
+        requires { F.IsAlwaysCallable test.now }
+        ensures { (p : Tag → Bool) → AlwaysReturns F.FnMut (λ a b. b ≡ p a.0) test.now → result ≡ rises p object tag (entry self.now) }
+    {
+        self.raises(object, tag) && test(self.tag)
     }
 }
 
@@ -55,7 +65,7 @@ impl History {
     pub fn find(&self, object: usize, tag: Tag) -> Option<usize>
         ensures place { result ≡ place_of (entries self.now) object tag }
     {
-        if tag.equals(Tag::zero()) {
+        if tag == Tag::zero() {
             return Some(self.len());
         }
         self.first(object, tag)
@@ -63,14 +73,9 @@ impl History {
 
     // The first entry of the object under the tag.
     fn first(&self, object: usize, tag: Tag) -> Option<usize>
-        ensures { result ≡ first (is_entry object tag) 0 (entries self.now) }
+        ensures { result ≡ position_from (is_entry object tag) 0 (entries self.now) }
     {
-        for (i, e) in self.entries.iter().enumerate() {
-            if e.is(object, tag) {
-                return Some(i);
-            }
-        }
-        None
+        self.entries.iter().position(|e| e.is(object, tag))
     }
 
     // Whether the object's value under the tag is held.
@@ -84,10 +89,9 @@ impl History {
     pub fn value_at<F: Field + Copy>(&self, code: &Code<F>, at: usize) -> Cells
         ensures value { items result ≡ value_at (meaning F.arithmetic code.now).cells (entries self.now) at }
     {
-        if at < self.entries.len() {
-            self.entries[at].value
-        } else {
-            zero_cells(code)
+        match self.entries.get(at) {
+            Some(entry) => entry.value,
+            None => zero_cells(code),
         }
     }
 
@@ -95,19 +99,27 @@ impl History {
     pub fn value_under<F: Field + Copy>(&self, code: &Code<F>, object: usize, tag: Tag) -> Cells
         ensures value { items result ≡ value_under (meaning F.arithmetic code.now).cells (entries self.now) object tag }
     {
-        match self.find(object, tag) {
-            Some(at) => self.value_at(code, at),
-            None => zero_cells(code),
-        }
+        let Some(at) = self.find(object, tag) else {
+            return zero_cells(code);
+        };
+        self.value_at(code, at)
     }
 
     // The highest tag of the object that is held, or the zero tag.
     pub fn highest(&self, object: usize) -> Tag
         ensures highest { result ≡ highest_held (entries self.now) object }
     {
+        self.highest_where(object, |_| true)
+    }
+
+    // The highest tag of the object that is held and passes the test, or the zero tag.
+    pub fn highest_where<F: Fn(Tag) -> bool>(&self, object: usize, test: F) -> Tag
+        requires { F.IsAlwaysCallable test }
+        ensures highest { (p : Tag → Bool) → AlwaysReturns F.FnMut (λ a b. b ≡ p a.0) test → result ≡ highest p object (entries self.now) }
+    {
         let mut best = Tag::zero();
         for e in self.entries.iter() {
-            if e.raises(object, best) {
+            if e.rises(object, best, &test) {
                 best = e.tag;
             }
         }
@@ -119,16 +131,5 @@ impl History {
 pub fn zero_cells<F: Field + Copy>(code: &Code<F>) -> Cells
     ensures value { items result ≡ zero_record (meaning F.arithmetic code.now).cells }
 {
-    zeros(code.cells())
-}
-
-fn zeros(cells: usize) -> Cells
-    requires { cells ≤ 16 }
-    ensures { items result ≡ zero_record cells }
-{
-    let mut zero = Cells::new(0);
-    for c in 0..cells {
-        zero.push(0);
-    }
-    zero
+    Cells::from_fn(0, code.cells(), |_| 0)
 }

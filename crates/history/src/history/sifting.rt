@@ -1,42 +1,36 @@
-// Which entries leave a history, and how the others close up.
+// Which entries leave a history; the others keep their order.
 ghost use Rattle.std.specs.Prelude.{◌≡◌, not, filter};
+ghost use Rattle.rules.specs.Histories.{is_entry};
 ghost use Rattle.history.specs.Entries.{entry, entries};
 ghost use Rattle.reads.specs.Readings.{reads};
-ghost use Rattle.history.specs.Sifting.{goes};
+ghost use Rattle.history.specs.Sifting.{unwanted_below};
 
 use super::{Entry, History};
-use crate::history::going::Going;
+use message::tag::Tag;
 use reads::reads::Reads;
 
 impl Entry {
-    fn goes(&self, going: Going, wanting: &Reads) -> bool
-        ensures { result ≡ goes going (reads wanting.now) (entry self.now) }
+    // Whether this is an entry of the object below the floor that no open read wants.
+    fn is_unwanted_below(&self, object: usize, floor: Tag, wanting: &Reads) -> bool
+        ensures { result ≡ unwanted_below object floor (reads wanting.now) (entry self.now) }
     {
-        match going {
-            Going::Below { object, floor } => {
-                self.object == object
-                    && self.tag.is_lower_than(floor)
-                    && !wanting.want(object, self.tag)
-            }
-            Going::Exactly { object, tag } => self.is(object, tag),
-        }
+        self.object == object && self.tag < floor && !wanting.want(object, self.tag)
     }
 }
 
 impl History {
-    // The entries that go leave; the others keep their order.
-    pub fn sift(&mut self, going: Going, wanting: &Reads)
-        ensures rest { entries self.new ≡ filter (λ e. not (goes going (reads wanting.now) e)) (entries self.old) }
+    // The entries of the object below the floor that no open read wants leave.
+    pub fn forget_below(&mut self, object: usize, floor: Tag, wanting: &Reads)
+        ensures rest { entries self.new ≡ filter (λ e. not (unwanted_below object floor (reads wanting.now) e)) (entries self.old) }
     {
-        let before = self.entries.len();
-        let mut count = 0;
-        for i in 0..before {
-            let entry = self.entries[i];
-            if !entry.goes(going, wanting) {
-                self.entries[count] = entry;
-                count += 1;
-            }
-        }
-        self.entries.truncate(count);
+        self.entries
+            .retain(|e| !e.is_unwanted_below(object, floor, wanting));
+    }
+
+    // The entries of the object under the tag leave.
+    pub fn forget(&mut self, object: usize, tag: Tag)
+        ensures rest { entries self.new ≡ filter (λ e. not (is_entry object tag e)) (entries self.old) }
+    {
+        self.entries.retain(|e| !e.is(object, tag));
     }
 }

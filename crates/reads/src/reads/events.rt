@@ -3,10 +3,12 @@ ghost use Rattle.std.specs.Prelude.{◌≡◌, ◌&&◌, ◌||◌, ◌==◌};
 ghost use Rattle.terms.specs.Items.{items};
 ghost use Rattle.message.specs.Tags.{zero_tag, lower};
 ghost use Rattle.rules.specs.Encoding.{asks};
-ghost use Rattle.rules.specs.Updates.{answered};
-ghost use Rattle.reads.specs.Readings.{asking, read, event_of, next, passes};
+ghost use Rattle.rules.specs.Updates.{answered, is_free, is_open, has_number, is_open_as};
+ghost use Rattle.reads.specs.Readings.{asking, read, event_of, next};
+ghost use Rattle.reads.specs.Ways.{way_number};
 
-use super::{Asking, Event, Given, Read, Sought};
+use super::{Asking, Event, Given, Read};
+use crate::ways::Way;
 use message::tag::Tag;
 use terms::bounded::Cells;
 
@@ -15,23 +17,18 @@ impl Asking {
     pub fn tag_of(&self, object: usize) -> Tag
         ensures found { result ≡ (asking self.now).tags object }
     {
-        let tags = &self.tags[..];
-        if object < tags.len() {
-            tags[object]
-        } else {
-            Tag::zero()
-        }
+        self.tags.get(object).copied().unwrap_or(Tag::zero())
     }
 
     // Whether a write of the object is news to this read.
     fn is_overtaken(&self, all: bool, object: usize, tag: Tag) -> bool
         ensures { result ≡ (self.now.object == object && (all || lower ((asking self.now).tags object) tag)) }
     {
-        self.object == object && (all || self.tag_of(object).is_lower_than(tag))
+        self.object == object && (all || self.tag_of(object) < tag)
     }
 
-    fn answered(&self, value: Cells, tag: Tag, way: u8) -> Read
-        ensures { read result ≡ answered (asking self.now) (items value) tag way }
+    fn answered(&self, value: Cells, tag: Tag, way: Way) -> Read
+        ensures { read result ≡ answered (asking self.now) (items value) tag (way_number way) }
     {
         Read::Answered(Given {
             number: self.number,
@@ -48,7 +45,7 @@ impl Read {
     {
         match (&self, &event) {
             (Read::Open(asking), Event::Replied(value)) => {
-                asking.answered(*value, asking.tag_of(asking.object), 3)
+                asking.answered(*value, asking.tag_of(asking.object), Way::Replies)
             }
             (
                 Read::Open(asking),
@@ -60,7 +57,7 @@ impl Read {
                 },
             ) => {
                 if asking.is_overtaken(*all, *object, *tag) {
-                    asking.answered(*value, *tag, 4)
+                    asking.answered(*value, *tag, Way::NewerWrite)
                 } else {
                     self
                 }
@@ -70,26 +67,40 @@ impl Read {
         }
     }
 
-    // Whether this is what is looked for.
-    pub(crate) fn is(&self, sought: Sought) -> bool
-        ensures { result ≡ passes sought (read self.now) }
+    pub fn is_free(&self) -> bool
+        ensures decided { result ≡ is_free (read self.now) }
     {
-        match (self, sought) {
-            (Read::Free, Sought::Free) => true,
-            (Read::Open(asking), Sought::Numbered(number)) => asking.number == number,
-            (Read::Open(asking), Sought::OpenAs(number)) => asking.number == number,
-            (Read::Answered(given), Sought::Numbered(number)) => given.number == number,
-            _ => false,
+        matches!(self, Read::Free)
+    }
+
+    pub fn is_open(&self) -> bool
+        ensures decided { result ≡ is_open (read self.now) }
+    {
+        matches!(self, Read::Open(_))
+    }
+
+    // Whether this is a read with this number that is not collected yet.
+    pub fn has_number(&self, number: u32) -> bool
+        ensures decided { result ≡ has_number number (read self.now) }
+    {
+        match self {
+            Read::Free => false,
+            Read::Open(asking) => asking.number == number,
+            Read::Answered(given) => given.number == number,
         }
     }
 
+    // Whether this is an open read with this number.
+    pub fn is_open_as(&self, number: u32) -> bool
+        ensures decided { result ≡ is_open_as number (read self.now) }
+    {
+        matches!(self, Read::Open(asking) if asking.number == number)
+    }
+
     // Whether this is an open read with this tag of the object.
-    pub(crate) fn asks(&self, object: usize, tag: Tag) -> bool
+    pub fn asks(&self, object: usize, tag: Tag) -> bool
         ensures decided { result ≡ asks object tag (read self.now) }
     {
-        match self {
-            Read::Open(asking) => asking.tag_of(object).equals(tag),
-            _ => false,
-        }
+        matches!(self, Read::Open(asking) if asking.tag_of(object) == tag)
     }
 }

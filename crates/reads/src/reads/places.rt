@@ -1,14 +1,16 @@
 // The table of reads: what is found in it, and how it changes.
-ghost use Rattle.std.specs.Prelude.{◌≡◌, ℕ, ◌<◌, ◌≤◌, length, IfOk};
+ghost use Rattle.std.specs.Prelude.{◌≡◌, ℕ, ◌<◌, ◌≤◌, Bool, ◌++◌, map, length, take, drop, IfOk};
+ghost use Rattle.std.specs.Fn.{ComputesKey};
 ghost use Rattle.terms.specs.Items.{items};
-ghost use Rattle.rules.specs.State.{Free, all_reads};
+ghost use Rattle.terms.specs.Limits.{max_client_reads};
+ghost use Rattle.rules.specs.State.{Free, all_reads, Read as ReadState};
 ghost use Rattle.rules.specs.Words.{upd, some, first_below};
 ghost use Rattle.rules.specs.Updates.{overtaken};
 ghost use Rattle.rules.specs.Encoding.{asks};
 ghost use Rattle.reads.specs.Places.{Inside};
-ghost use Rattle.reads.specs.Readings.{read, reads, event_of, next, passes};
+ghost use Rattle.reads.specs.Readings.{read, reads, event_of, next};
 
-use super::{Event, Read, Reads, Sought};
+use super::{Event, Read, Reads};
 use crate::numbers::ReadPlace;
 use message::tag::Tag;
 use std::alloc::{AllocError, Global};
@@ -28,47 +30,30 @@ impl Reads {
     pub fn at(&self, i: usize) -> Read
         ensures found { read result ≡ reads self.now i }
     {
-        if i < self.places.len() {
-            self.places[i]
-        } else {
-            Read::Free
-        }
+        self.places.get(i).copied().unwrap_or(Read::Free)
     }
 
-    // The first of the first n places whose read is what is looked for.
-    pub fn find(&self, n: usize, sought: Sought) -> Option<usize>
-        ensures place { result ≡ first_below n (λ i. passes sought (reads self.now i)) }
+    // The first of the first n places whose read passes the test.
+    pub fn find<F: Fn(&Read) -> bool>(&self, n: usize, test: F) -> Option<usize>
+        requires { F.IsAlwaysCallable test }
+        ensures place { (p : ReadState → Bool) → ComputesKey F.FnMut (λ r. p (read r)) test → result ≡ first_below n (λ i. p (reads self.now i)) }
         ensures inside { Inside result n }
     {
-        for i in 0..n {
-            if self.is(i, sought) {
-                return Some(i);
-            }
-        }
-        None
+        (0..n).position(|i| self.passes(i, &test))
     }
 
-    fn is(&self, i: usize, sought: Sought) -> bool
-        ensures { result ≡ passes sought (reads self.now i) }
+    fn passes<F: Fn(&Read) -> bool>(&self, i: usize, test: &F) -> bool
+        requires { F.IsAlwaysCallable test.now }
+        ensures { (p : ReadState → Bool) → ComputesKey F.FnMut (λ r. p (read r)) test.now → result ≡ p (reads self.now i) }
     {
-        self.at(i).is(sought)
+        test(&self.at(i))
     }
 
     // Whether an open read has this tag of the object.
     pub fn want(&self, object: usize, tag: Tag) -> bool
         ensures decided { result ≡ some all_reads (λ i. asks object tag (reads self.now i)) }
     {
-        let mut wanted = false;
-        for i in 0..MAX_READS {
-            wanted = wanted | self.asks(i, object, tag);
-        }
-        wanted
-    }
-
-    fn asks(&self, i: usize, object: usize, tag: Tag) -> bool
-        ensures { result ≡ asks object tag (reads self.now i) }
-    {
-        self.at(i).asks(object, tag)
+        self.places.iter().any(|read| read.asks(object, tag))
     }
 
     // Another read at a place.
@@ -96,8 +81,16 @@ impl Reads {
             tag,
             value,
         };
-        for i in 0..MAX_CLIENT_READS {
-            self.tell(ReadPlace { number: i }, event);
-        }
+        tell_clients(self.places.as_mut_slice(), event);
+    }
+}
+
+// An event at each place of a client.
+fn tell_clients(places: &mut [Read], event: Event)
+    requires { max_client_reads ≤ length places.old }
+    ensures { map read places.new ≡ map (λ r. next r (event_of event)) (take max_client_reads (map read places.old)) ++ drop max_client_reads (map read places.old) }
+{
+    for read in &mut places[..MAX_CLIENT_READS] {
+        *read = read.next(event);
     }
 }

@@ -6,32 +6,23 @@ ghost use Rattle.code.specs.Meaning.{meaning};
 ghost use Rattle.rules.specs.State.{new_server};
 ghost use Rattle.rules.specs.Words.{upd};
 ghost use Rattle.rules.specs.Updates.{entered, counted, queued, reading, hearing, moved, overtaken};
-ghost use Rattle.server.specs.Entries.{entry};
-ghost use Rattle.server.specs.Readings.{read};
+ghost use Rattle.history.specs.Entries.{entry};
+ghost use Rattle.reads.specs.Readings.{read};
 ghost use Rattle.server.specs.Servers.{server};
-ghost use Rattle.server.specs.Writes.{write};
+ghost use Rattle.waiting.specs.Writes.{write};
 
 use super::{Server, Told};
-use crate::history::lookup::zero_cells;
-use crate::history::{Entry, History};
-use crate::numbers::{ObjectNumber, ReadPlace, ServerNumber};
-use crate::reads::{Read, Reads};
-use crate::waiting::{Queue, Waiting};
 use code::code::Code;
 use field::interface::Field;
+use history::history::lookup::zero_cells;
+use history::history::{Entry, History};
 use message::tag::Tag;
+use reads::numbers::{ObjectNumber, ReadPlace, ServerNumber};
+use reads::reads::{Read, Reads};
 use std::alloc::{AllocError, Global};
 use terms::bounded::Cells;
 use terms::limits::{MAX_OBJECTS, MAX_SERVERS};
-
-impl Told {
-    // The server j told another tag.
-    fn hear(&mut self, j: ServerNumber, tag: Tag)
-        ensures { self.new.tags ≡ slice_set self.old.tags j.number tag }
-    {
-        self.tags[j.number] = tag;
-    }
-}
+use waiting::waiting::{Queue, Waiting};
 
 impl Server {
     // A new server: all is zero or empty.
@@ -44,7 +35,7 @@ impl Server {
         Ok(Server {
             clock: [0; MAX_SERVERS],
             top: 0,
-            symbol: zero_cells(code.cells()),
+            symbol: zero_cells(code),
             own: [Tag::zero(); MAX_OBJECTS],
             told: [nobody; MAX_OBJECTS],
             history: History::new(heap)?,
@@ -81,12 +72,10 @@ impl Server {
     pub fn hear(&mut self, object: ObjectNumber, j: ServerNumber, tag: Tag)
         ensures after { server self.new ≡ hearing (server self.old) object.number j.number tag }
     {
-        let mut told = self.told[object.number];
-        told.hear(j, tag);
-        self.told[object.number] = told;
+        self.told[object.number].tags[j.number] = tag;
     }
 
-    // The own tag of an object at this server, number `me`, becomes `tag`, with another symbol.
+    // This server, number `me`, has another own tag of the object, with another symbol.
     pub fn move_to(&mut self, me: ServerNumber, object: ObjectNumber, tag: Tag, symbol: Cells)
         ensures after { server self.new ≡ moved (server self.old) me.number object.number tag (items symbol) }
     {

@@ -2,32 +2,24 @@
 ghost use Rattle.std.specs.Prelude.{◌≡◌, length, slice_index_or};
 ghost use Rattle.terms.specs.Items.{items};
 ghost use Rattle.message.specs.Tags.{zero_tag};
-ghost use Rattle.server.specs.Entries.{entries};
-ghost use Rattle.server.specs.Readings.{reads};
-ghost use Rattle.server.specs.Writes.{writes};
+ghost use Rattle.history.specs.Entries.{entries};
+ghost use Rattle.reads.specs.Readings.{reads};
+ghost use Rattle.waiting.specs.Writes.{writes};
 ghost use Rattle.server.specs.Servers.{server};
 
 use super::{Server, Told};
-use crate::history::History;
-use crate::reads::Reads;
-use crate::waiting::Queue;
-use crate::waiting::ready::count_of;
+use history::history::History;
 use message::tag::Tag;
+use reads::reads::Reads;
 use terms::bounded::Cells;
-
-// The tag at a place, and the zero tag past the last.
-pub(crate) fn tag_at(tags: &[Tag], i: usize) -> Tag
-    ensures { result ≡ slice_index_or tags.now i zero_tag }
-{
-    if i < tags.len() { tags[i] } else { Tag::zero() }
-}
+use waiting::waiting::Queue;
 
 impl Told {
     // The tag that the server j told.
     fn tag_of(&self, j: usize) -> Tag
         ensures { result ≡ slice_index_or self.now.tags j zero_tag }
     {
-        tag_at(&self.tags[..], j)
+        self.tags.get(j).copied().unwrap_or(Tag::zero())
     }
 }
 
@@ -36,7 +28,7 @@ impl Server {
     pub fn count_of(&self, j: usize) -> u32
         ensures counted { result ≡ (server self.now).clock j }
     {
-        count_of(&self.clock[..], j)
+        self.clock.get(j).copied().unwrap_or(0)
     }
 
     // The greatest height applied.
@@ -56,18 +48,16 @@ impl Server {
     pub fn own_tag(&self, object: usize) -> Tag
         ensures told { result ≡ (server self.now).own object }
     {
-        tag_at(&self.own[..], object)
+        self.own.get(object).copied().unwrap_or(Tag::zero())
     }
 
     // The tag of an object that the server j told last.
     pub fn told_tag(&self, object: usize, j: usize) -> Tag
         ensures told { result ≡ (server self.now).told object j }
     {
-        if object < self.told.len() {
-            self.told[object].tag_of(j)
-        } else {
-            Tag::zero()
-        }
+        self.told
+            .get(object)
+            .map_or(Tag::zero(), |told| told.tag_of(j))
     }
 
     pub fn history(&self) -> &History

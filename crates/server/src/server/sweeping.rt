@@ -1,27 +1,27 @@
 // What a server no longer needs of its history.
 ghost use Rattle.std.specs.Prelude.{◌≡◌, ℕ, ◌-◌, ◌<◌, ◌≤◌, length, take, if◌then◌else◌, slice_index_or};
+ghost use Rattle.std.specs.List.{list_all};
+ghost use Rattle.terms.specs.Limits.{max_servers};
 ghost use Rattle.message.specs.Tags.{zero_tag, same};
 ghost use Rattle.code.specs.Meaning.{meaning};
 ghost use Rattle.rules.specs.Encoding.{lowest, floor, swept};
 ghost use Rattle.rules.specs.Histories.{earlier, highest_held};
 ghost use Rattle.rules.specs.Updates.{sifted};
-ghost use Rattle.rules.specs.Words.{every};
+ghost use Rattle.terms.specs.Lists.{every};
 ghost use Rattle.server.specs.Servers.{server};
 ghost use Rattle.server.specs.Steps.{laid, settled_among, without_below, without_own};
 
-use super::lookups::tag_at;
 use super::{Server, Told};
-use crate::history::going::Going;
-use crate::numbers::ObjectNumber;
 use code::code::Code;
 use field::interface::Field;
 use message::tag::Tag;
+use reads::numbers::ObjectNumber;
 
 // The lowest of the tags; there is at least one.
 fn lowest(told: &[Tag]) -> Tag
     ensures { result ≡ lowest (length told.now) (λ j. slice_index_or told.now j zero_tag) }
 {
-    let mut floor = tag_at(told, 0);
+    let mut floor = told.first().copied().unwrap_or(Tag::zero());
     for tag in told {
         floor = earlier(*tag, floor);
     }
@@ -31,17 +31,24 @@ fn lowest(told: &[Tag]) -> Tag
 fn earlier(s: Tag, t: Tag) -> Tag
     ensures { result ≡ earlier s t }
 {
-    if s.is_lower_than(t) { s } else { t }
+    if s < t { s } else { t }
 }
 
 impl Told {
     // The tags of the first n servers.
     fn first(&self, n: usize) -> &[Tag]
-        requires { n ≤ 6 }
+        requires { n ≤ max_servers }
         ensures { result.now ≡ take n self.now.tags }
     {
-        let all = &self.tags[..];
-        &all[0..n]
+        &self.tags[..n]
+    }
+
+    // Whether the first n servers have all told this tag.
+    fn is_told_by(&self, n: usize, tag: Tag) -> bool
+        requires { n ≤ max_servers }
+        ensures { result ≡ list_all (λ t. same t tag) (take n self.now.tags) }
+    {
+        self.first(n).iter().all(|told| *told == tag)
     }
 }
 
@@ -49,7 +56,7 @@ impl Server {
     // The lowest tag of the object that any of the first n servers has told.
     fn floor(&self, n: usize, object: ObjectNumber) -> Tag
         requires some { 1 ≤ n }
-        requires few { n ≤ 6 }
+        requires few { n ≤ max_servers }
         ensures { result ≡ lowest n ((server self.now).told object.number) }
     {
         let row = &self.told[object.number];
@@ -57,30 +64,21 @@ impl Server {
     }
 
     // Whether the first n servers have all told the own tag of the object.
-    fn all_told_own(&self, n: usize, object: usize) -> bool
-        ensures { result ≡ every n (λ j. same ((server self.now).told object j) ((server self.now).own object)) }
+    fn all_told_own(&self, n: usize, object: ObjectNumber) -> bool
+        requires { n ≤ max_servers }
+        ensures { result ≡ every n (λ j. same ((server self.now).told object.number j) ((server self.now).own object.number)) }
     {
-        let mut all = true;
-        for j in 0..n {
-            all = all & self.has_told_own(object, j);
-        }
-        all
-    }
-
-    fn has_told_own(&self, object: usize, j: usize) -> bool
-        ensures { result ≡ same ((server self.now).told object j) ((server self.now).own object) }
-    {
-        self.told_tag(object, j).equals(self.own_tag(object))
+        let own = self.own_tag(object.number);
+        self.told[object.number].is_told_by(n, own)
     }
 
     // Whether all have told the own tag of the object, and no entry is higher.
-    fn is_settled(&self, n: usize, object: usize) -> bool
-        ensures { result ≡ settled_among n (server self.now) object }
+    fn is_settled(&self, n: usize, object: ObjectNumber) -> bool
+        requires { n ≤ max_servers }
+        ensures { result ≡ settled_among n (server self.now) object.number }
     {
-        self.all_told_own(n, object)
-            && !self
-                .own_tag(object)
-                .is_lower_than(self.history.highest(object))
+        let x = object.number;
+        self.all_told_own(n, object) && self.own_tag(x) >= self.history.highest(x)
     }
 
     // Forgets what no server needs of the object any more, and tells how many entries those were.
@@ -92,7 +90,7 @@ impl Server {
         let n = code.servers();
         let floor = self.floor(n, object);
         self.forget_below(object.number, floor);
-        self.forget_settled(n, object.number);
+        self.forget_settled(n, object);
         before.saturating_sub(self.history.len())
     }
 
@@ -100,18 +98,17 @@ impl Server {
     fn forget_below(&mut self, object: usize, floor: Tag)
         ensures { server self.new ≡ without_below (server self.old) object floor }
     {
-        let going = Going::Below { object, floor };
-        self.history.sift(going, &self.reads);
+        self.history.forget_below(object, floor, &self.reads);
     }
 
     // Forgets the own tag's entry of the object, if the object is settled.
-    fn forget_settled(&mut self, n: usize, object: usize)
-        ensures { server self.new ≡ (if settled_among n (server self.old) object then without_own (server self.old) object else server self.old) }
+    fn forget_settled(&mut self, n: usize, object: ObjectNumber)
+        requires { n ≤ max_servers }
+        ensures { server self.new ≡ (if settled_among n (server self.old) object.number then without_own (server self.old) object.number else server self.old) }
     {
         if self.is_settled(n, object) {
-            let tag = self.own_tag(object);
-            self.history
-                .sift(Going::Exactly { object, tag }, &self.reads);
+            let tag = self.own_tag(object.number);
+            self.history.forget(object.number, tag);
         }
     }
 }

@@ -1,34 +1,43 @@
 // A write of the server's own, and the next waiting write applied.
-ghost use Rattle.std.specs.Prelude.{◌≡◌, ◌+◌, ◌<◌, ◌≤◌, true, false, length, nat_lt};
+ghost use Rattle.std.specs.Prelude.{◌≡◌, ◌+◌, ◌<◌, ◌≤◌, ⊤, true, false, length, None, nat_lt};
 ghost use Rattle.terms.specs.Answers.{Answered};
+ghost use Rattle.terms.specs.declared.refusal.Refusal.TheVariants.{HistoryFull};
+ghost use Rattle.rules.specs.Turns.{check};
 ghost use Rattle.terms.specs.Items.{items};
 ghost use Rattle.terms.specs.Limits.{max_entries, max_count};
 ghost use Rattle.rules.specs.Writing.{write_tag, write_at};
-ghost use Rattle.server.specs.Entries.{entry};
+ghost use Rattle.history.specs.Entries.{entry};
 ghost use Rattle.server.specs.Servers.{server};
-ghost use Rattle.server.specs.Steps.{write_refusal, written, after, took_in, applied, apply_answer, apply_after, chosen};
-ghost use Rattle.server.specs.Writes.{Inside};
+ghost use Rattle.server.specs.Steps.{has_room, write_refusal, written, after, took_in, applied, apply_answer, apply_after, chosen};
+ghost use Rattle.reads.specs.Places.{Inside};
 
 use super::Server;
-use crate::history::Entry;
-use crate::numbers::ServerNumber;
+use history::history::Entry;
 use message::tag::Tag;
+use reads::numbers::ServerNumber;
 use terms::bounded::Cells;
 use terms::limits::{MAX_COUNT, MAX_HEIGHT};
 use terms::refusal::Refusal;
 
 impl Server {
-    // Why the server, number `me`, makes no write now.
-    pub fn refuse_write(&self, me: ServerNumber) -> Option<Refusal>
-        ensures refusal { result ≡ write_refusal (server self.now) me.number }
+    // Refuses a write that the server, number `me`, cannot make now.
+    pub fn check_write(&self, me: ServerNumber) -> Result<(), Refusal>
+        ensures refusal { Answered (write_refusal (server self.now) me.number) (λ _. ⊤) result }
     {
         if self.count_of(me.number) >= MAX_COUNT || self.top >= MAX_HEIGHT {
-            return Some(Refusal::NumbersUsedUp);
+            return Err(Refusal::NumbersUsedUp);
         }
+        self.check_room()
+    }
+
+    // Refuses an entry more where the history is full.
+    pub fn check_room(&self) -> Result<(), Refusal>
+        ensures refusal { Answered (check (has_room (server self.now)) HistoryFull None) (λ _. ⊤) result }
+    {
         if !self.history.has_room() {
-            return Some(Refusal::HistoryFull);
+            return Err(Refusal::HistoryFull);
         }
-        None
+        Ok(())
     }
 
     // A write of the object by the server itself, number `me`, applied at once.
@@ -36,9 +45,7 @@ impl Server {
         ensures answer { Answered (write_refusal (server self.old) me.number) (λ t. t ≡ write_tag (server self.old) me.number) result }
         ensures after { server self.new ≡ after (write_refusal (server self.old) me.number) (server self.old) (written (server self.old) me.number object (items value)) }
     {
-        if let Some(refusal) = self.refuse_write(me) {
-            return Err(refusal);
-        }
+        self.check_write(me)?;
         let tag = Tag {
             height: self.top + 1,
             server: me.number as u32,
@@ -74,9 +81,7 @@ impl Server {
         let Some(at) = self.next_ready(n) else {
             return Ok(None);
         };
-        if !self.history.has_room() {
-            return Err(Refusal::HistoryFull);
-        }
+        self.check_room()?;
         Ok(Some(self.apply_at(at)))
     }
 
@@ -87,10 +92,8 @@ impl Server {
         ensures tag { result ≡ (write_at (server self.old).waiting at).tag }
         ensures after { server self.new ≡ applied (server self.old) at }
     {
-        let write = self.waiting.remove(at);
-        let from = ServerNumber {
-            number: write.tag.server as usize,
-        };
+        let write = self.waiting.remove(at).unwrap();
+        let from = ServerNumber::known(write.tag.server as usize);
         let count = write.clock.get_or(from.number, 0);
         let e = Entry {
             object: write.object,

@@ -1,4 +1,4 @@
-ghost use Rattle.std.specs.Prelude.{◌≡◌, ℕ, ◌+◌, ◌<◌, ◌≤◌, [], ◌∷◌, ◌++◌, length, MatchOption, nat_le, nat_lt, slice_index_or};
+ghost use Rattle.std.specs.Prelude.{◌≡◌, ℕ, ◌+◌, ◌<◌, ◌≤◌, [], ◌∷◌, ◌++◌, length, MatchOption, nat_lt, slice_index_or};
 ghost use Rattle.terms.specs.Items.{items};
 
 use super::Bounded;
@@ -24,17 +24,39 @@ impl<T: Copy, const MAX: usize> Bounded<T, MAX> {
         ensures shown { result.now ≡ items self.now }
     {
         let all = &self.places[..];
-        &all[0..self.len]
+        &all[..self.len]
     }
 
     // The item at i, or `other` past the end.
     pub fn get_or(&self, i: usize, other: T) -> T
         ensures found { result ≡ slice_index_or (items self.now) i other }
     {
-        match self.as_slice().get(i) {
-            Some(x) => *x,
-            None => other,
+        self.as_slice().get(i).copied().unwrap_or(other)
+    }
+
+    // The list of n items, each made from its place; `fill` stands in the places that are left.
+    pub fn from_fn<F: Fn(usize) -> T>(fill: T, n: usize, make: F) -> Self
+        requires fits { n ≤ MAX }
+        requires callable { (i : ℕ) → i < n → F.pre make i }
+        ensures counted { length (items result) ≡ n }
+        ensures made { (i : ℕ) → i < n → F.post make i (slice_index_or (items result) i fill) }
+    {
+        let mut all = Bounded::new(fill);
+        for i in 0..n {
+            all.append(make(i));
         }
+        all
+    }
+
+    // Adds the items of `more` at the end.
+    pub fn extend_from_slice(&mut self, more: &[T])
+        requires { length (items self.old) + length more.now ≤ MAX }
+        ensures added { items self.new ≡ items self.old ++ more.now }
+    {
+        let end = self.len + more.len();
+        let all = &mut self.places[..];
+        all[self.len..end].copy_from_slice(more);
+        self.len = end;
     }
 
     // Adds an item at the end, and answers true; a full list stays as it is.
@@ -43,17 +65,11 @@ impl<T: Copy, const MAX: usize> Bounded<T, MAX> {
         ensures added { length (items self.old) < MAX → items self.new ≡ items self.old ++ x ∷ [] }
         ensures full_unchanged { MAX ≤ length (items self.old) → items self.new ≡ items self.old }
     {
-        if self.is_full() {
+        if self.len() >= MAX {
             return false;
         }
         self.append(x);
         true
-    }
-
-    fn is_full(&self) -> bool
-        ensures { result ≡ nat_le MAX (length (items self.now)) }
-    {
-        self.len >= MAX
     }
 
     fn append(&mut self, x: T)
@@ -72,9 +88,7 @@ impl<T: Copy, const MAX: usize> Bounded<T, MAX> {
             return None;
         }
         let mut all = Bounded::new(fill);
-        for x in s {
-            all.push(*x);
-        }
+        all.extend_from_slice(s);
         Some(all)
     }
 }

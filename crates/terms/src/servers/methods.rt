@@ -1,14 +1,14 @@
-ghost use Rattle.std.specs.Prelude.{◌≡◌, ℕ, ◌<◌, false, cond, ◌||◌, ltb, Some, None, ◌==◌, nat_lt};
-ghost use Rattle.terms.specs.Answers.{Answered};
+ghost use Rattle.std.specs.Prelude.{◌≡◌, ℕ, ◌<◌, Bool, false, cond, ◌&&◌, ◌||◌, ltb, Some, None, ◌==◌, nat_lt};
+ghost use Rattle.terms.specs.Answers.{Answered, unless};
 ghost use Rattle.terms.specs.declared.refusal.Refusal.TheVariants.{NoSuchServer};
 ghost use Rattle.terms.specs.Limits.{max_servers};
-ghost use Rattle.terms.specs.Lists.{each};
+ghost use Rattle.std.specs.List.{list_all};
 ghost use Rattle.terms.specs.Sets.{member, among};
-ghost use Rattle.terms.specs.Answers.{unless};
 
 use super::ServerSet;
 use crate::limits::MAX_SERVERS;
 use crate::refusal::Refusal;
+use std::array;
 
 impl ServerSet {
     pub fn empty() -> ServerSet
@@ -28,18 +28,30 @@ impl ServerSet {
         }
     }
 
+    // The set of the servers whose numbers pass the test.
+    pub fn from_fn<F: Fn(usize) -> bool>(test: F) -> ServerSet
+        requires callable { (s : ℕ) → s < max_servers → F.pre test s }
+        ensures tested { (passes : ℕ → Bool) → ((s : ℕ) (b : Bool) → s < max_servers → F.post test s b → b ≡ passes s) → (s : ℕ) → member result s ≡ (nat_lt s max_servers && passes s) }
+    {
+        ServerSet {
+            members: array::from_fn(
+                |s| -> bool
+                    requires { F.pre test s }
+                    ensures { F.post test s result }
+                { test(s) },
+            ),
+        }
+    }
+
     // The set of the servers of a list, each below the most that a group may have.
     pub fn of(servers: &[usize]) -> Result<ServerSet, Refusal>
-        ensures listed_or_refused { Answered (unless (each (λ s. ltb s max_servers) servers.now) NoSuchServer None) (λ set. (s : ℕ) → member set s ≡ among servers.now s) result }
+        ensures listed_or_refused { Answered (unless (list_all (λ s. ltb s max_servers) servers.now) NoSuchServer None) (λ set. (s : ℕ) → member set s ≡ among servers.now s) result }
     {
-        let mut members = [false; MAX_SERVERS];
+        let mut set = ServerSet::empty();
         for s in servers {
-            if *s >= MAX_SERVERS {
-                return Err(Refusal::NoSuchServer);
-            }
-            members[*s] = true;
+            set = set.with(*s)?;
         }
-        Ok(ServerSet { members })
+        Ok(set)
     }
 
     // The set and one server more.

@@ -46,18 +46,9 @@ impl Queue {
         ensures removed { option_map write result ≡ (if nat_lt at (length (writes self.old)) then Some (write_at (writes self.old) at) else None) }
         ensures rest { writes self.new ≡ without (writes self.old) at }
     {
-        if at < self.len() {
-            Some(self.take_out(at))
-        } else {
-            None
+        if at >= self.len() {
+            return None;
         }
-    }
-
-    fn take_out(&mut self, at: usize) -> Waiting
-        requires { at < length (writes self.old) }
-        ensures removed { write result ≡ write_at (writes self.old) at }
-        ensures rest { writes self.new ≡ without (writes self.old) at }
-    {
-        self.writes.remove(at)
+        Some(self.writes.remove(at))
     }
 }

@@ -1,24 +1,16 @@
 // Which waiting write is applied next.
 ghost use Rattle.std.specs.Prelude.{◌≡◌, ℕ, ◌<◌, ◌≤◌, length, slice_index};
-ghost use Rattle.rules.specs.Words.{every};
+ghost use Rattle.terms.specs.Lists.{every};
 ghost use Rattle.waiting.specs.Writes.{write, writes, Inside, fits_count, ready, better_of, next_of};
 
 use super::{Queue, Waiting};
-use terms::limits::MAX_SERVERS;
-
-// The count of a server in a clock, and 0 past its end.
-pub fn count_of(clock: &[u32], j: usize) -> u32
-    ensures found { result ≡ slice_index clock.now j }
-{
-    if j < clock.len() { clock[j] } else { 0 }
-}
 
 impl Waiting {
     // Whether the count of the server j lets this write be applied.
     fn fits(&self, clock: &[u32], j: usize) -> bool
         ensures { result ≡ fits_count (λ i. slice_index clock.now i) (write self.now) j }
     {
-        let own = count_of(clock, j);
+        let own = clock.get(j).copied().unwrap_or(0);
         let count = self.clock.get_or(j, 0);
         if j == self.tag.server as usize {
             count as u64 == own as u64 + 1
@@ -28,14 +20,10 @@ impl Waiting {
     }
 
     // Whether the counts of all n servers let this write be applied.
-    fn is_ready(&self, clock: &[u32], n: usize) -> bool
+    pub fn is_ready(&self, clock: &[u32], n: usize) -> bool
         ensures decided { result ≡ ready n (λ i. slice_index clock.now i) (write self.now) }
     {
-        let mut ready = true;
-        for j in 0..n {
-            ready = ready & self.fits(clock, j);
-        }
-        ready
+        (0..n).all(|j| self.fits(clock, j))
     }
 }
 
@@ -54,7 +42,7 @@ impl Queue {
         let Some(b) = best else {
             return Some(i);
         };
-        if write.tag.is_lower_than(self.writes[b].tag) {
+        if write.tag < self.writes[b].tag {
             Some(i)
         } else {
             best

@@ -1,66 +1,40 @@
-ghost use Rattle.std.specs.Prelude.{◌≡◌, ℕ, ◌+◌, ◌*◌, ◌^◌, ◌<◌, ◌≤◌, List, [], ◌++◌, length};
+ghost use Rattle.std.specs.Prelude.{◌≡◌, ℕ, ◌+◌, ◌*◌, ◌^◌, ◌<◌, ◌≤◌, ◌++◌, length};
 ghost use Rattle.terms.specs.Items.{items};
 ghost use Rattle.terms.specs.Limits.{max_cells, max_body_bytes};
 ghost use Rattle.wire.specs.Bodies.{body_so_far};
+ghost use Rattle.wire.specs.Kinds.{kind_number};
 ghost use Rattle.wire.specs.Words.{four, padded};
 ghost use Rattle.wire.specs.Writing.{tag_bytes, opaque_bytes, counted_bytes};
 
 use super::Body;
-use message::kinds::*;
+use crate::item::Item;
+use crate::kind::Kind;
 use message::tag::Tag;
-use terms::bounded::Cells;
-use terms::limits::MAX_BODY_BYTES;
-
-// An item of a list, written as so many bytes.
-pub trait Put: Copy {
-    ghost bytes: { Self → List ℕ };
-
-    fn put(self, out: &mut Body)
-        requires { length (body_so_far out.old) + length (bytes self) ≤ max_body_bytes }
-        ensures added { body_so_far out.new ≡ body_so_far out.old ++ bytes self };
-}
-
-impl Put for u32 {
-    ghost bytes = { four };
-
-    fn put(self, out: &mut Body) {
-        out.put_number(self);
-    }
-}
-
-impl Put for Tag {
-    ghost bytes = { tag_bytes };
-
-    fn put(self, out: &mut Body) {
-        out.put_tag(self);
-    }
-}
+use terms::bounded::{Bounded, Cells};
 
 impl Body {
-    pub fn empty() -> Body
-        ensures none { body_so_far result ≡ [] }
+    // The body of a message of the kind, with no field yet.
+    pub fn of(kind: Kind) -> Body
+        ensures begun { body_so_far result ≡ four (kind_number kind) }
     {
-        Body {
-            len: 0,
-            bytes: [0; MAX_BODY_BYTES],
-        }
+        let mut out = Body {
+            bytes: Bounded::new(0),
+        };
+        out.put_number(kind.into());
+        out
     }
 
     pub fn as_slice(&self) -> &[u8]
         ensures shown { result.now ≡ body_so_far self.now }
     {
-        let all = &self.bytes[..];
-        &all[0..self.len]
+        self.bytes.as_slice()
     }
 
     fn put_bytes(&mut self, more: &[u8])
         requires { length (body_so_far self.old) + length more.now ≤ max_body_bytes }
         ensures added { body_so_far self.new ≡ body_so_far self.old ++ more.now }
-        ensures len { length (body_so_far self.new) ≡ length (body_so_far self.old) + length more.now }
     {
-        let end = self.len + more.len();
-        self.bytes[self.len..end].copy_from_slice(more);
-        self.len = end;
+        self.bytes.extend_from_slice(more);
     }
 
     pub fn put_number(&mut self, n: u32)
@@ -74,7 +48,6 @@ impl Body {
     pub fn put_tag(&mut self, t: Tag)
         requires { length (body_so_far self.old) + 8 ≤ max_body_bytes }
         ensures added { body_so_far self.new ≡ body_so_far self.old ++ tag_bytes t }
-        ensures len { length (body_so_far self.new) ≡ length (body_so_far self.old) + 8 }
     {
         self.put_number(t.height);
         self.put_number(t.server);
@@ -95,9 +68,9 @@ impl Body {
     }
 
     // The count of some items, and the items.
-    pub fn put_list<T: Put>(&mut self, list: &[T])
-        requires { (length (body_so_far self.old) + length (counted_bytes T.Put.bytes list.now) ≤ max_body_bytes) × (length list.now < 2 ^ 32) }
-        ensures added { body_so_far self.new ≡ body_so_far self.old ++ counted_bytes T.Put.bytes list.now }
+    pub fn put_list<T: Item>(&mut self, list: &[T])
+        requires { (length (body_so_far self.old) + length (counted_bytes T.Item.bytes list.now) ≤ max_body_bytes) × (length list.now < 2 ^ 32) }
+        ensures added { body_so_far self.new ≡ body_so_far self.old ++ counted_bytes T.Item.bytes list.now }
     {
         self.put_number(list.len() as u32);
         for x in list {

@@ -1,41 +1,17 @@
-ghost use Rattle.std.specs.Prelude.{◌≡◌, ℕ, ◌≤◌, List, length, Result, ◌==◌};
+ghost use Rattle.std.specs.Prelude.{◌≡◌, Result, length, ◌==◌};
+ghost use Rattle.std.specs.Fn.{FnOnceReturnsAt, FnOnceReturnsAtMut};
 ghost use Rattle.wire.specs.declared.faults.FieldFault.{FieldFault};
 ghost use Rattle.terms.specs.Items.{items};
-ghost use Rattle.wire.specs.Reading.{number, tag, opaque, clock, tags, counted, zeros, Opened, Reads, itself, start};
+ghost use Rattle.wire.specs.Reading.{number, tag, opaque, clock, tags, counted, zeros, Opened, Reads, itself, start, RangedBy};
 
 use super::Cursor;
-use crate::faults::*;
+use crate::faults::{FieldFault, MessageFault};
+use crate::item::Item;
 use crate::mark;
-use message::kinds::*;
+use message::kinds::{Clock, Tags};
 use message::tag::Tag;
 use terms::bounded::{Bounded, Cells};
-use terms::limits::*;
-
-// An item of a list: a field of a fixed size.
-trait Item: Copy {
-    ghost item: { ℕ → List ℕ → Result (Self × List ℕ) FieldFault };
-
-    fn read(c: &mut Cursor) -> Result<Self, FieldFault>
-        ensures end { c.new.end ≡ c.old.end }
-        ensures reads { Reads itself item c.old c.new result };
-}
-
-// A count of a clock.
-impl Item for u32 {
-    ghost item = { number };
-
-    fn read(c: &mut Cursor) -> Result<u32, FieldFault> {
-        c.number()
-    }
-}
-
-impl Item for Tag {
-    ghost item = { tag };
-
-    fn read(c: &mut Cursor) -> Result<Tag, FieldFault> {
-        c.tag()
-    }
-}
+use terms::limits::{MARK_BYTES, MAX_CELLS, MIN_CELLS, MIN_OBJECTS, MIN_SERVERS};
 
 impl<'a> Cursor<'a> {
     // The record that the bytes begin with, behind its mark.
@@ -57,7 +33,6 @@ impl<'a> Cursor<'a> {
     }
 
     pub fn number(&mut self) -> Result<u32, FieldFault>
-        ensures end { self.new.end ≡ self.old.end }
         ensures reads { Reads itself number self.old self.new result }
     {
         match self.left {
@@ -70,10 +45,9 @@ impl<'a> Cursor<'a> {
     }
 
     pub fn tag(&mut self) -> Result<Tag, FieldFault>
-        ensures end { self.new.end ≡ self.old.end }
         ensures reads { Reads itself tag self.old self.new result }
     {
-        if self.left.len() < 8 {
+        if self.left.len() < Tag::SIZE {
             return Err(FieldFault::TooShort { at: self.at() });
         }
         let height = self.number()?;
@@ -83,7 +57,6 @@ impl<'a> Cursor<'a> {
 
     // A value or a symbol: a length, so many bytes, and padding to a multiple of 4.
     pub fn opaque(&mut self) -> Result<Cells, FieldFault>
-        ensures end { self.new.end ≡ self.old.end }
         ensures reads { Reads items opaque self.old self.new result }
     {
         let at = self.at();
@@ -93,61 +66,71 @@ impl<'a> Cursor<'a> {
         if left.len() < padded {
             return Err(FieldFault::TooShort { at });
         }
-        if n < MIN_CELLS || n > MAX_CELLS || !zeros(&left[n..padded]) {
+        if !(MIN_CELLS..=MAX_CELLS).contains(&n) || !zeros(&left[n..padded]) {
             return Err(FieldFault::Malformed { at });
         }
-        self.left = &left[padded..left.len()];
-        match Bounded::from_slice(0, &left[0..n]) {
-            Some(cells) => Ok(cells),
-            None => Err(FieldFault::Malformed { at }),
-        }
+        self.left = &left[padded..];
+        Bounded::from_slice(0, &left[..n]).ok_or(FieldFault::Malformed { at })
     }
 
     pub fn clock(&mut self) -> Result<Clock, FieldFault>
-        ensures end { self.new.end ≡ self.old.end }
         ensures reads { Reads items clock self.old self.new result }
     {
-        self.list(0, 4, MIN_SERVERS)
+        self.list(0, MIN_SERVERS)
     }
 
     pub fn tags(&mut self) -> Result<Tags, FieldFault>
-        ensures end { self.new.end ≡ self.old.end }
         ensures reads { Reads items tags self.old self.new result }
     {
-        self.list(Tag::zero(), 8, MIN_OBJECTS)
+        self.list(Tag::zero(), MIN_OBJECTS)
     }
 
-    // A count from `low` to MAX, and as many items of `size` bytes each.
+    // A count from `low` to MAX, and as many items.
     fn list<T: Item, const MAX: usize>(
         &mut self,
         fill: T,
-        size: usize,
         low: usize,
     ) -> Result<Bounded<T, MAX>, FieldFault>
-        requires { size ≤ 8 }
-        ensures end { self.new.end ≡ self.old.end }
-        ensures reads { Reads items (counted low MAX size T.Item.item) self.old self.new result }
+        ensures reads { Reads items (counted low MAX T.Item.SIZE T.Item.item) self.old self.new result }
     {
         let at = self.at();
         let n = self.number()? as usize;
-        if self.left.len() < n * size {
+        if self.left.len() < n * T::SIZE {
             return Err(FieldFault::TooShort { at });
         }
-        if n < low || n > MAX {
+        if !(low..=MAX).contains(&n) {
             return Err(FieldFault::Malformed { at });
         }
         let mut all = Bounded::new(fill);
-        for _i in 0..n {
+        for _ in 0..n {
             let x = T::read(self)?;
             all.push(x);
         }
         Ok(all)
     }
 
+    // A field, and then its range.
+    pub fn ranged<
+        T: Copy,
+        R: FnOnce(&mut Cursor<'a>) -> Result<T, FieldFault>,
+        P: FnOnce(&T) -> bool,
+    >(&mut self, read: R, passes: P) -> Result<T, MessageFault>
+        requires readable { R.IsAlwaysCallable read }
+        requires testable { P.IsAlwaysCallable passes }
+        ensures ranged { (field : Result T FieldFault) × FnOnceReturnsAtMut R.FnOnce read self.old field self.new × RangedBy (FnOnceReturnsAt P.FnOnce passes) (start self.old.end self.old.left.now) field result }
+    {
+        let at = self.at();
+        let x = read(self)?;
+        if !passes(&x) {
+            return Err(MessageFault::OutOfRange { at });
+        }
+        Ok(x)
+    }
+
     pub fn is_done(&self) -> bool
         ensures none_left { result ≡ (length self.now.left.now == 0) }
     {
-        self.left.len() == 0
+        self.left.is_empty()
     }
 
     pub fn end(&self) -> usize
@@ -160,10 +143,5 @@ impl<'a> Cursor<'a> {
 fn zeros(bytes: &[u8]) -> bool
     ensures decided { result ≡ zeros bytes.now }
 {
-    for b in bytes {
-        if *b != 0 {
-            return false;
-        }
-    }
-    true
+    bytes.iter().all(|b| *b == 0)
 }

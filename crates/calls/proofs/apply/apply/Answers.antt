@@ -1,14 +1,15 @@
 use Rattle.std.proofs.Common.{ℕ, ◌<◌, length, None, vec_items, refl, ap, ◌∙◌, ap₂, arith}
 use Rattle.rules.specs.State as rules
-use Rattle.server_split.specs.Servers.{server}
-use Rattle.server_split.specs.Steps.{chosen}
+use Rattle.teller.specs.Tellers.{teller}
+use Rattle.server.specs.Steps.{chosen}
 use Rattle.steps.specs.Local.{local}
-use Rattle.group_split.specs.States.{state, layout}
-use Rattle.group_split.proofs.Places.{at_server, put_is}
+use Rattle.group.specs.States.{state, layout}
+use Rattle.group.proofs.Places.{at_server, put_is}
 use Rattle.calls.specs.Refusing.{server_why}
 use Rattle.calls.specs.Told.{apply_told}
 use Rattle.calls.proofs.Applying.{apply_by, apply_joined}
-use Rattle.calls.proofs.Taking.{nothing, broke, took_refused, took_joined}
+use Rattle.steps.proofs.Refused.{broke}
+use Rattle.calls.proofs.Taking.{nothing, took_refused, took_joined}
 use Rattle.calls.proofs.apply.apply.Goals as goal
 
 pub returns-in_err-reach : goal.returns-in_err-reach
@@ -36,11 +37,11 @@ returns g c =
     let items = vec_items q.servers in
     let cells = q.code.cells in
     let lt : s < length items = omega (arith, c.in_ok-reach.ensures.within, q.server_each, q.servers.ok.0) in
-    let p = server c.index_mut.result.now in
+    let p = teller c.index_mut.result.now in
     let new = c.apply.new.self in
     let here = at_server cells items s lt c.index_mut.result.now c.index_mut.ensures.value in
     record {
-      step = took_joined nothing (λ _. tt) (server_why l s) s q.code.servers (local (apply_told c.apply.result) (server new) None) _ _ _ (apply_joined l (state q L) s nothing)
+      step = took_joined nothing (λ _. tt) (server_why l s) s q.code.servers (local (apply_told c.apply.result) (teller new) None) _ _ _ (apply_joined l (state q L) s nothing)
           c.in_ok-reach.ensures.answer.0
           (ap₂ (λ (r : _) (t : rules.Server). local (apply_told r) t None) c.apply.ensures.answer c.apply.ensures.after
           ∙ ap₂ (λ (n : ℕ) (t : rules.Server). apply_by t (chosen n t)) c.servers-servers.ensures.counted here)

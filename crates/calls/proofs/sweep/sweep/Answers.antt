@@ -1,14 +1,15 @@
 use Rattle.std.proofs.Common.{ℕ, ◌<◌, length, None, vec_items, refl, ap, ◌∙◌, ap₂, arith}
 use Rattle.rules.specs.State as rules
 use Rattle.rules.specs.Turns.{Removed}
-use Rattle.server_split.specs.Servers.{server}
+use Rattle.teller.specs.Tellers.{teller}
 use Rattle.steps.specs.Local.{local}
-use Rattle.group_split.specs.States.{state, layout}
-use Rattle.group_split.proofs.Places.{at_server, put_is}
+use Rattle.group.specs.States.{state, layout}
+use Rattle.group.proofs.Places.{at_server, put_is}
 use Rattle.calls.specs.Refusing.{object_why}
 use Rattle.calls.specs.Told.{sweep_told}
 use Rattle.calls.proofs.Sweeping.{sweep_local, sweep_joined}
-use Rattle.calls.proofs.Taking.{nothing, broke, took_refused, took_joined}
+use Rattle.steps.proofs.Refused.{broke}
+use Rattle.calls.proofs.Taking.{nothing, took_refused, took_joined}
 use Rattle.calls.proofs.sweep.sweep.Goals as goal
 
 pub returns-in_err-aim : goal.returns-in_err-aim
@@ -41,7 +42,7 @@ returns g c =
     let here = at_server cells items s lt c.index_mut.result.now c.index_mut.ensures.value in
     let places = g.C.Carrier.p m in
     record {
-      step = took_joined nothing (λ _. tt) (object_why l s x) s q.code.servers (local (Removed c.sweep.result) (server new) None) _ _ _ (sweep_joined l (state q L) s x nothing) c.in_ok-aim.ensures.answer.0
+      step = took_joined nothing (λ _. tt) (object_why l s x) s q.code.servers (local (Removed c.sweep.result) (teller new) None) _ _ _ (sweep_joined l (state q L) s x nothing) c.in_ok-aim.ensures.answer.0
           (ap₂ (λ (k : ℕ) (t : rules.Server). local (Removed k) t None) (c.sweep.ensures.removed places) (c.sweep.ensures.after places)
           ∙ ap₂ (λ (y : ℕ) (t : rules.Server). sweep_local l t y) c.in_ok-aim.ensures.answer.1.1 here)
           refl (put_is cells items s lt new L L);

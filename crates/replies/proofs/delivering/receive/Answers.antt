@@ -2,8 +2,8 @@ use Rattle.std.proofs.Common.{None, ap, ◌∙◌}
 use Rattle.terms.specs.Items.{items}
 use Rattle.code.specs.Meaning as code
 use Rattle.rules.specs.Turns.{Outcome}
-use Rattle.server_split.specs.Servers.{server}
-use Rattle.server_split.specs.Steps.{laid}
+use Rattle.server.specs.Servers.{server}
+use Rattle.server.specs.Steps.{laid}
 use Rattle.steps.specs.Local.{local}
 use Rattle.steps.specs.Reading.{found_of}
 use Rattle.replies.proofs.Messages.{fit_range, plain_cells, taken_as}
@@ -17,10 +17,7 @@ pub invariant_of-x : goal.invariant_of-x
 invariant_of-x g c = record { within = tag_notice_object c.in-TagNotice.object c.in-TagNotice.tag (fit_range (laid (code.meaning g.F.Field.arithmetic c.args.code.now) 0) c.args.m _ c.in-TagNotice.is c.requires.fit) }
 
 pub answer-requires : goal.answer-requires
-answer-requires g c = record {
-  server_within = c.requires.me_within;
-  in_range = fit_range (laid (code.meaning g.F.Field.arithmetic c.args.code.now) 0) c.args.m _ c.in-Question.is c.requires.fit;
-}
+answer-requires g c = fit_range (laid (code.meaning g.F.Field.arithmetic c.args.code.now) 0) c.args.m _ c.in-Question.is c.requires.fit
 
 pub invariant_of-take_plain : goal.invariant_of-take_plain
 invariant_of-take_plain g c =
@@ -31,12 +28,11 @@ returns-in-WriteNotice g c =
     let k = code.meaning g.F.Field.arithmetic c.args.code.now in
     record {
       taken =
-          taken_as k (server c.args.p.now) c.args.from.number c.args.me.number c.args.back_free _ c.args.m _ c.in-WriteNotice.is (record {
+          taken_as k (server c.args.p.now.server) c.args.from.number c.args.me.number c.args.back_free _ c.args.m _ c.in-WriteNotice.is (record {
             found = found_of None;
             allowed = λ _. tt;
             step = λ places. c.silent.ensures.said _ ∙ c.note_write.ensures (laid k places) c.args.me.number c.args.back_free (found_of None);
           });
-      sendable = c.silent.ensures.sendable;
     }
 
 pub returns-in-TagNotice : goal.returns-in-TagNotice
@@ -44,12 +40,11 @@ returns-in-TagNotice g c =
     let k = code.meaning g.F.Field.arithmetic c.args.code.now in
     record {
       taken =
-          taken_as k (server c.args.p.now) c.args.from.number c.args.me.number c.args.back_free _ c.args.m _ c.in-TagNotice.is (record {
+          taken_as k (server c.args.p.now.server) c.args.from.number c.args.me.number c.args.back_free _ c.args.m _ c.in-TagNotice.is (record {
             found = found_of None;
             allowed = λ _. tt;
             step = λ places. c.silent-in-TagNotice.ensures.said _ ∙ ap (λ q. local (Outcome 0) q None) c.hear.ensures.after;
           });
-      sendable = c.silent-in-TagNotice.ensures.sendable;
     }
 
 pub returns-in-Question : goal.returns-in-Question
@@ -57,12 +52,11 @@ returns-in-Question g c =
     let k = code.meaning g.F.Field.arithmetic c.args.code.now in
     record {
       taken =
-          taken_as k (server c.args.p.now) c.args.from.number c.args.me.number c.args.back_free _ c.args.m _ c.in-Question.is (record {
+          taken_as k (server c.args.p.now.server) c.args.from.number c.args.me.number c.args.back_free _ c.args.m _ c.in-Question.is (record {
             found = found_of None;
             allowed = λ _. tt;
             step = λ places. c.answer.ensures.step places c.args.from.number (found_of None);
           });
-      sendable = c.answer.ensures.sendable;
     }
 
 pub returns-in-PlainReply : goal.returns-in-PlainReply
@@ -70,12 +64,11 @@ returns-in-PlainReply g c =
     let k = code.meaning g.F.Field.arithmetic c.args.code.now in
     record {
       taken =
-          taken_as k (server c.args.p.now) c.args.from.number c.args.me.number c.args.back_free _ c.args.m _ c.in-PlainReply.is (record {
+          taken_as k (server c.args.p.now.server) c.args.from.number c.args.me.number c.args.back_free _ c.args.m _ c.in-PlainReply.is (record {
             found = found_of None;
             allowed = λ _. tt;
             step = λ places. c.silent-in-PlainReply.ensures.said _ ∙ c.take_plain.ensures (laid k places);
           });
-      sendable = c.silent-in-PlainReply.ensures.sendable;
     }
 
 pub returns-in-CodedReply : goal.returns-in-CodedReply
@@ -83,10 +76,9 @@ returns-in-CodedReply g c =
     let k = code.meaning g.F.Field.arithmetic c.args.code.now in
     record {
       taken =
-          taken_as k (server c.args.p.now) c.args.from.number c.args.me.number c.args.back_free _ c.args.m _ c.in-CodedReply.is (record {
+          taken_as k (server c.args.p.now.server) c.args.from.number c.args.me.number c.args.back_free _ c.args.m _ c.in-CodedReply.is (record {
             found = c.take_coded.ensures.found;
             allowed = c.take_coded.ensures.allowed;
             step = λ places. c.silent-in-CodedReply.ensures.said _ ∙ c.take_coded.ensures.step places;
           });
-      sendable = c.silent-in-CodedReply.ensures.sendable;
     }

@@ -2,7 +2,7 @@ use Rattle.std.proofs.Common.{◌&&◌, ap, ◌∙◌}
 use Rattle.code.specs.Meaning.{meaning}
 use Rattle.message.specs.Meanings as message
 use Rattle.rules.specs.Delivering.{fits, fits_group}
-use Rattle.server_split.specs.Steps.{laid}
+use Rattle.server.specs.Steps.{laid}
 use Rattle.replies.proofs.fitting.fits.Goals as goal
 
 pub returns-then-is_in_range : goal.returns-then-is_in_range

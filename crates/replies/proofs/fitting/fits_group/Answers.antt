@@ -3,7 +3,7 @@ use Rattle.code.specs.Meaning.{meaning}
 use Rattle.message.specs.Meanings as message
 use Rattle.message.specs.declared.kinds.Message.{Message}
 use Rattle.rules.specs.Delivering.{fits_group}
-use Rattle.server_split.specs.Steps.{laid}
+use Rattle.server.specs.Steps.{laid}
 use Rattle.replies.proofs.fitting.fits_group.Goals as goal
 
 pub returns-in-WriteNotice : goal.returns-in-WriteNotice

@@ -7,18 +7,18 @@ use Rattle.code.specs.Meaning.{meaning}
 use Rattle.reads.specs.Readings.{asking}
 use Rattle.rules.specs.Encoding.{turned}
 use Rattle.rules.specs.Histories.{holds}
-use Rattle.server_split.specs.Servers.{server}
-use Rattle.server_split.specs.Steps.{laid}
+use Rattle.server.specs.Servers.{server}
+use Rattle.server.specs.Steps.{laid}
 use Rattle.replies.proofs.mending.mended_at.Goals as goal
 
 pub returns : goal.returns
 returns g c places ts e =
-    let code = meaning g.F.Field.arithmetic c.args.code.now in
+    let code = meaning g.F.Field.arithmetic c.args.share.now.code.now in
     let l = laid code places in
     let p = server c.args.p.now in
     let r = asking c.args.asking.now in
-    let a = c.args.from.number in
-    let y = c.args.y in
+    let a = c.args.share.now.server.number in
+    let y = c.args.share.now.object.number in
     let v = items c.args.symbol in
     let wanted = c.tag_of-wanted.ensures.found in
     let both = c.if-not-holds_both.ensures ∙ ap (λ (t : Tag). holds p.history y c.args.stated && holds p.history y t) wanted in

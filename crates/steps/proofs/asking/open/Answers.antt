@@ -1,35 +1,22 @@
 use Rattle.std.proofs.Common.{◌≡◌, ℕ, ◌+◌, ◌<◌, List, ap, ◌∙◌, ap₂, arith}
-use Rattle.std.specs.Option.{option_map}
 use Rattle.terms.specs.Items.{items}
 use Rattle.terms.specs.Limits.{max_read}
 use Rattle.terms.specs.Lists.{listed}
-use Rattle.code.specs.Meaning.{meaning}
 use Rattle.message.specs.declared.tag.Tag.{Tag}
 use Rattle.message.specs.Meanings.{question}
 use Rattle.message.specs.Ranges.{in_range}
 use Rattle.message.specs.Tags.{zero_tag}
-use Rattle.reads.specs.declared.numbers.ReadPlace.{ReadPlace}
-use Rattle.server_split.specs.Servers.{server}
-use Rattle.server_split.specs.Steps.{laid}
-use Rattle.steps.proofs.Opening.{opened_is}
+use Rattle.server.specs.Servers.{server}
 use Rattle.steps.proofs.Ranges.{question_range}
 use Rattle.steps.proofs.asking.open.Goals as goal
 
-pub returns : goal.returns
-returns g c =
-    let p = server c.args.p.now in
+pub invariant_of-result : goal.invariant_of-result
+invariant_of-result g c =
+    let p = server c.args.p.now.server in
     let code = c.args.code.now in
     let x = c.args.x.number in
     let left : p.opened < max_read = omega (arith, c.opened.ensures.told) in
     let number = c.in_ok-number.ensures.answer.1 in
     let tags : items c.own_tags-tags.result ≡ listed code.objects p.own = c.own_tags-tags.ensures ∙ ap (λ (n : ℕ). listed n p.own) c.objects.ensures.counted in
     let said = ap₂ (λ (n : ℕ) (ts : List Tag). question n x ts) number tags in
-    record {
-      step = λ places told.
-          opened_is (laid (meaning g.F.Field.arithmetic code) places) p (server c.open.new.self) c.args.me.number x c.in-Some.i.number c.in_ok-number.number
-          (option_map (λ (i : ReadPlace). i.number) c.args.place) c.args.lanes_free told _ left (ap (option_map (λ (i : ReadPlace). i.number)) c.in-Some.is) c.if-not-lanes_free.false number said
-          c.in_ok-number.ensures.answer.0 c.open.ensures.after;
-      sendable =
-          ap in_range said
-          ∙ question_range (p.opened + 1) x code.objects p.own zero_tag (omega arith) (omega arith) c.args.x.within code.least_objects code.most_objects c.args.p.now.own_in_range;
-    }
+    record { sendable = ap in_range said ∙ question_range (p.opened + 1) x code.objects p.own zero_tag (omega arith) (omega arith) c.args.x.within code.least_objects code.most_objects c.args.p.now.in_range.own_tags }

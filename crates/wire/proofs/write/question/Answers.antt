@@ -1,11 +1,9 @@
-use Rattle.std.proofs.Common.{◌≤◌, ◌++◌, length, refl, ap, ◌∙◌, arith}
+use Rattle.std.proofs.Common.{◌≤◌, length, refl, ap, arith}
 use Rattle.std.specs.List.{flat_map}
 use Rattle.terms.specs.Items.{items}
 use Rattle.terms.specs.Limits.{max_objects}
-use Rattle.wire.specs.Bodies.{body_so_far}
-use Rattle.wire.specs.Words.{four}
-use Rattle.wire.specs.Writing.{tag_bytes, counted_bytes}
-use Rattle.wire.proofs.Puts.{chain4, few_items}
+use Rattle.wire.specs.Writing.{tag_bytes}
+use Rattle.wire.proofs.Puts.{few_items}
 use Rattle.wire.proofs.Whole.{joined_long}
 use Rattle.wire.proofs.write.question.Goals as goal
 
@@ -14,7 +12,4 @@ put_list-requires c =
     let l = items c.args.tags.now in
     let few : length l ≤ max_objects = few_items c.args.tags.now in
     let shown = c.as_slice.ensures.shown in
-    (omega (arith, ap length c.empty-out.ensures.none, c.put_number.ensures.len, c.put_number-2.ensures.len, c.put_number-3.ensures.len, ap (λ k. length (flat_map tag_bytes k)) shown, joined_long tag_bytes 8 (λ x. refl) l max_objects few), omega (arith, ap length shown))
-
-pub returns : goal.returns
-returns c = record { written = chain4 _ _ _ _ _ (four 3) (four c.args.read) (four c.args.object) (counted_bytes tag_bytes (items c.args.tags.now)) c.empty-out.ensures.none c.put_number.ensures.added c.put_number-2.ensures.added c.put_number-3.ensures.added (c.put_list.ensures.added ∙ ap (λ l. body_so_far c.put_number-3.new.self ++ counted_bytes tag_bytes l) c.as_slice.ensures.shown) }
+    (omega (arith, ap length c.of-out.ensures.begun, c.put_number.ensures.len, c.put_number-2.ensures.len, ap (λ k. length (flat_map tag_bytes k)) shown, joined_long tag_bytes 8 (λ x. refl) l max_objects few), omega (arith, ap length shown))

@@ -1,20 +1,17 @@
-use Rattle.std.proofs.Common.{◌≡◌, ℕ, Bool, ◌||◌, sym, ap, ◌∙◌, ap₂, arith}
-use Rattle.rules.specs.Words.{some}
+use Rattle.std.proofs.Common.{map, vec_items, ◌∙◌, rules, tests, arith}
+use Rattle.std.proofs.lemmas.Iterator.{YieldsList-from_slice}
+use Rattle.std.proofs.lemmas.Iterator.Search.{any_from_yields_List}
+use Rattle.std.proofs.lemmas.List.{length-map}
+use Rattle.rules.specs.State.{Free}
 use Rattle.rules.specs.Encoding.{asks}
-use Rattle.reads.specs.Readings.{reads}
-use Rattle.reads.proofs.Words.{some_none, some_more}
+use Rattle.reads.specs.declared.reads.Read.{Read}
+use Rattle.reads.specs.Readings.{read}
+use Rattle.reads.proofs.Words.{any_map, some_listed}
 use Rattle.reads.proofs.reads.Reads.want.Goals as goal
-
-pub loop-i-init : goal.loop-i-init
-loop-i-init c = sym (some_none (λ (i : ℕ). asks c.args.object c.args.tag (reads c.args.self.now i)))
-
-pub loop-i-preserved : goal.loop-i-preserved
-loop-i-preserved c =
-    let test : ℕ → Bool = λ i. asks c.args.object c.args.tag (reads c.args.self.now i) in
-    ap₂ (λ a b. a || b) c.loop-i.invariant c.asks-wanted.ensures ∙ sym (some_more c.loop-i.i test)
 
 pub returns : goal.returns
 returns c =
-    let test : ℕ → Bool = λ i. asks c.args.object c.args.tag (reads c.args.self.now i) in
-    let end : c.loop-i.i ≡ 14 = omega arith in
-    record { decided = c.loop-i.invariant ∙ ap (λ (k : ℕ). some k test) end }
+    let rs = vec_items c.args.self.now.places in
+    let some = some_listed (asks c.args.object c.args.tag) (map read rs) Free 14 (omega (arith, length-map rs read, c.args.self.now.whole)) in
+    let any = any_from_yields_List (λ (r : Read). asks c.args.object c.args.tag (read r)) _ _ _ c.any.ensures.ran (YieldsList-from_slice rs cc) (λ x b q k. search (rules, tests)) in
+    record { decided = any ∙ any_map (asks c.args.object c.args.tag) read rs ∙ some }

@@ -1,5 +1,5 @@
 use Rattle.rules.specs.Updates.{reading}
-use Rattle.server.specs.Readings.{reads, given}
+use Rattle.reads.specs.Readings.{reads, given}
 use Rattle.server.specs.Servers.{server}
 use Rattle.server.proofs.Steps.{collect_answered, collect_freed}
 use Rattle.server.proofs.server.Server.collect.Goals as goal

@@ -1,7 +1,7 @@
-use Rattle.std.proofs.Common.{arith, length-set}
+use Rattle.std.proofs.Common.{ℕ, ◌≤◌, arith, length-set}
 use Rattle.terms.specs.Limits.{max_count}
 use Rattle.server.specs.Servers.{server}
-use Rattle.server.proofs.Words.{get_or_upd, bounded_set}
+use Rattle.reads.proofs.Words.{get_or_upd, each_set}
 use Rattle.server.proofs.Parts.{counted_is}
 use Rattle.server.proofs.server.Server.count.Goals as goal
 
@@ -18,7 +18,9 @@ pub invariant_of-self : goal.invariant_of-self
 invariant_of-self c =
     let p = c.args.self.now in
     record {
-      counts_in_range = bounded_set p.clock c.args.j.number c.args.count max_count (omega (arith, c.args.j.within, p.count_each)) p.counts_in_range c.requires;
+      counts_in_range =
+          each_set (λ (n : ℕ). n ≤ max_count) p.clock c.args.j.number c.args.count 0 (omega (arith, c.args.j.within, p.count_each)) p.counts_in_range
+          c.requires;
       count_each = simp length-set p.count_each;
       own_each = p.own_each;
       told_each = p.told_each;

@@ -1,7 +1,7 @@
 use Rattle.std.proofs.Common.{ltb, length}
 use Rattle.rules.specs.Updates.{sifted}
 use Rattle.terms.specs.Limits.{max_entries}
-use Rattle.server.specs.Entries.{entry, entries}
+use Rattle.history.specs.Entries.{entry, entries}
 use Rattle.server.specs.Servers.{server}
 use Rattle.server.proofs.Parts.{entered_is}
 use Rattle.server.proofs.server.Server.enter.Goals as goal

@@ -4,7 +4,7 @@ use Rattle.message.specs.Tags.{zero_tag}
 use Rattle.rules.specs.Encoding.{lowest}
 use Rattle.server.specs.Servers.{told_tags}
 use Rattle.server.specs.declared.server.Told.{Told}
-use Rattle.server.proofs.Lists.{map_at}
+use Rattle.reads.proofs.Lists.{map_at}
 use Rattle.server.proofs.Steps.{lowest_take}
 use Rattle.server.proofs.server.Server.floor.Goals as goal
 

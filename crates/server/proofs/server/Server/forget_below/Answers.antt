@@ -5,4 +5,4 @@ use Rattle.server.proofs.server.Server.forget_below.Goals as goal
 
 pub returns : goal.returns
 unfolding sifted
-returns c = ap (sifted (server c.args.self.now)) c.sift.ensures.rest
+returns c = ap (sifted (server c.args.self.now)) c.forget_below.ensures.rest

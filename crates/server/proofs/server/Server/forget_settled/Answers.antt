@@ -12,6 +12,6 @@ pub returns-then-is_settled : goal.returns-then-is_settled
 unfolding sifted
 returns-then-is_settled c =
     let p = server c.args.self.now in
-    let gone : Tag → state.Server = λ t. sifted p (filter (λ (e : rules.Entry). not (is_entry c.args.object t e)) p.history) in
-    ap (sifted p) c.sift.ensures.rest ∙ ap gone c.own_tag-tag.ensures.told
-    ∙ ap (λ (b : Bool). cond b (without_own p c.args.object) p) c.if-is_settled.ensures
+    let gone : Tag → state.Server = λ t. sifted p (filter (λ (e : rules.Entry). not (is_entry c.args.object.number t e)) p.history) in
+    ap (sifted p) c.forget.ensures.rest ∙ ap gone c.own_tag-tag.ensures.told
+    ∙ ap (λ (b : Bool). cond b (without_own p c.args.object.number) p) c.if-is_settled.ensures

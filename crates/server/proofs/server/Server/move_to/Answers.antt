@@ -2,7 +2,7 @@ use Rattle.std.proofs.Common.{arith}
 use Rattle.message.specs.Tags.{zero_tag}
 use Rattle.terms.specs.Items.{items}
 use Rattle.server.specs.Servers.{server}
-use Rattle.server.proofs.Words.{get_or_upd}
+use Rattle.reads.proofs.Words.{get_or_upd}
 use Rattle.server.proofs.Parts.{moved_is}
 use Rattle.server.proofs.server.Server.move_to.Goals as goal
 

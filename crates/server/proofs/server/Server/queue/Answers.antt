@@ -2,7 +2,7 @@ use Rattle.std.proofs.Common.{ltb, length}
 use Rattle.rules.specs.Updates.{queued}
 use Rattle.terms.specs.Limits.{max_waiting}
 use Rattle.server.specs.Servers.{server}
-use Rattle.server.specs.Writes.{write, writes}
+use Rattle.waiting.specs.Writes.{write, writes}
 use Rattle.server.proofs.Parts.{queued_is}
 use Rattle.server.proofs.server.Server.queue.Goals as goal
 

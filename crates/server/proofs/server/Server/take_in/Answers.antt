@@ -1,5 +1,5 @@
 use Rattle.std.proofs.Common.{◌∙◌}
-use Rattle.server.specs.Entries.{entry}
+use Rattle.history.specs.Entries.{entry}
 use Rattle.server.specs.Servers.{server}
 use Rattle.server.proofs.Steps.{took_is}
 use Rattle.server.proofs.server.Server.take_in.Goals as goal

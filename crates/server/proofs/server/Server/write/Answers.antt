@@ -13,7 +13,7 @@ returns c =
     let x = c.args.object in
     let v = items c.args.value in
     record {
-      answer = (sym c.in_default.ensures.refusal, refl);
-      after = written_is p (server c.take_in.new.self) s x v c.in_default.ensures.refusal
+      answer = (c.in_ok-check_write.ensures.refusal.0, refl);
+      after = written_is p (server c.take_in.new.self) s x v (sym c.in_ok-check_write.ensures.refusal.0)
           (c.take_in.ensures ∙ ap (λ (n : ℕ). took_in p s (n + 1) true (record { object = x; tag = write_tag p s; value = v })) c.count_of-count.ensures.counted);
     }

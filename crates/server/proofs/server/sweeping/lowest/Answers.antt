@@ -1,4 +1,4 @@
-use Rattle.std.proofs.Common.{◌≡◌, ℕ, length, get_or, sym, ap, ◌∙◌, ap₂, arith}
+use Rattle.std.proofs.Common.{◌≡◌, ℕ, length, get_or, sym, ap, ◌∙◌, ap₂, rules, arith}
 use Rattle.std.proofs.lemmas.List.{get_or_default}
 use Rattle.message.specs.declared.tag.Tag.{Tag}
 use Rattle.message.specs.Tags.{zero_tag}
@@ -8,7 +8,7 @@ use Rattle.server.proofs.Steps.{lowest_none, lowest_more}
 use Rattle.server.proofs.server.sweeping.lowest.Goals as goal
 
 pub loop-tag-init : goal.loop-tag-init
-loop-tag-init c = c.tag_at-floor.ensures ∙ sym (lowest_none (λ (j : ℕ). get_or c.args.told.now j zero_tag))
+loop-tag-init c = search rules ∙ sym (lowest_none (λ (j : ℕ). get_or c.args.told.now j zero_tag))
 
 pub loop-tag-preserved : goal.loop-tag-preserved
 loop-tag-preserved c =

@@ -1,17 +1,12 @@
-use Rattle.std.proofs.Common.{◌≡◌, ℕ, ◌&&◌, get_or, sym, ap, ◌∙◌, ap₂, arith}
-use Rattle.waiting.specs.Writes.{ready, write, fits_count}
-use Rattle.reads.proofs.Words.{every_none, every_more}
+use Rattle.std.proofs.Common.{ℕ, Bool, get_or, sym, refl, ◌∙◌, rules, tests, arith}
+use Rattle.std.proofs.lemmas.Iterator.{YieldsList-from_range}
+use Rattle.std.proofs.lemmas.Iterator.Search.{all_from_yields_List}
+use Rattle.terms.proofs.Every.{every_listed}
+use Rattle.waiting.specs.Writes.{write, fits_count}
 use Rattle.waiting.proofs.waiting.Waiting.is_ready.Goals as goal
-
-pub loop-j-init : goal.loop-j-init
-loop-j-init c = sym (every_none (fits_count (λ (i : ℕ). get_or c.args.clock.now i 0) (write c.args.self.now)))
-
-pub loop-j-preserved : goal.loop-j-preserved
-loop-j-preserved c =
-    let fits = fits_count (λ (i : ℕ). get_or c.args.clock.now i 0) (write c.args.self.now) in
-    ap₂ (λ a b. a && b) c.loop-j.invariant c.fits-ready.ensures ∙ sym (every_more c.loop-j.j fits)
 
 pub returns : goal.returns
 returns c =
-    let end : c.loop-j.j ≡ c.args.n = omega arith in
-    record { decided = c.loop-j.invariant ∙ ap (λ (k : ℕ). ready k (λ (i : ℕ). get_or c.args.clock.now i 0) (write c.args.self.now)) end }
+    let fits : ℕ → Bool = fits_count (λ (i : ℕ). get_or c.args.clock.now i 0) (write c.args.self.now) in
+    let all = all_from_yields_List fits _ _ _ c.all.ensures.ran (YieldsList-from_range 0 c.args.n c.args.n refl (omega arith)) (λ x b q k. search (rules, tests)) in
+    record { decided = all ∙ sym (every_listed c.args.n fits) }

@@ -1,6 +1,0 @@
-use Rattle.std.proofs.Common.{◌≡◌}
-use Rattle.rules.specs.Lanes.{free}
-use Rattle.group.proofs.group.posting.all_free.Given as goal
-
-abbrev pub invariant-loop-to : goal.invariant-loop-to
-invariant-loop-to g l = l.all ≡ free (g.C.Carrier.p l.carrier) (g.C.Carrier.lanes l.carrier) l.from l.to

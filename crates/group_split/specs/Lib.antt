@@ -1,3 +1,0 @@
-pub mod Lookups
-pub mod Reached
-pub mod States

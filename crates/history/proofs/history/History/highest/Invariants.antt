@@ -1,8 +1,0 @@
-use Rattle.std.proofs.Common.{◌≡◌, true, take, fold}
-use Rattle.message.specs.Tags.{zero_tag}
-use Rattle.rules.specs.Histories.{raised}
-use Rattle.history.specs.Entries.{entry}
-use Rattle.history.proofs.history.History.highest.Given as goal
-
-abbrev pub invariant-loop-e : goal.invariant-loop-e
-invariant-loop-e l = l.best ≡ fold (λ t e. raised (λ _. true) l.object t (entry e)) zero_tag (take l.e-index l.e-items)

@@ -1,6 +1,0 @@
-use Rattle.std.proofs.Common.{◌≡◌, get_or}
-use Rattle.server.specs.Writes.{ready, write}
-use Rattle.server.proofs.waiting.Waiting.is_ready.Given as goal
-
-abbrev pub invariant-loop-j : goal.invariant-loop-j
-invariant-loop-j l = l.ready ≡ ready l.j (λ i. get_or l.clock i 0) (write l.self)

@@ -1,3 +1,0 @@
-pub mod Parts
-pub mod Ranges
-pub mod Steps

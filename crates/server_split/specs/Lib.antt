@@ -1,2 +1,0 @@
-pub mod Servers
-pub mod Steps
