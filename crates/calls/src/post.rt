@@ -48,7 +48,7 @@ impl Sender {
 }
 
 // Whether the lane from one server to another has a free place; none is needed from a server to itself.
-fn has_place<C: Carrier>(carrier: &C, from: usize, to: usize) -> bool
+pub(crate) fn has_place<C: Carrier>(carrier: &C, from: usize, to: usize) -> bool
     requires from_within { from < C.n carrier.now }
     requires to_within { to < C.n carrier.now }
     ensures { result ≡ (to == from || nat_lt (length (C.lanes carrier.now from to)) (C.p carrier.now)) }

@@ -2,7 +2,7 @@
 use Rattle.std.specs.Prelude.{◌≡◌, ℕ, zero, suc, ◌+◌, ◌-◌, ◌*◌, ◌<◌, ◌≤◌, Bool, true, false, cond, not, ◌&&◌, List, [], ◌∷◌, ◌++◌, map, length, get_or, take, drop, replicate, Some, None, vec_items, vec_len, Option, ◌==◌, ◌≢◌, nat_lt, slice_index, slice_index_or, slice_set, refl}
 use Rattle.std.proofs.Common.{sym, ap, subst, ◌∙◌, ⊎_elim, arith, length-take}
 use Rattle.std.proofs.lemmas.List.{get_or-set_same, get_or-set_other, nil_from_length, length-map}
-use Rattle.std.proofs.lemmas.Bool.{cases_eq, cond-true, cond-false, le-ltb, lt-ltb, and_parts, leb-true}
+use Rattle.std.proofs.lemmas.Bool.{cases_eq, cond-true, cond-false, le-ltb, lt-ltb, le-leb, and_from, and_parts, leb-true}
 use Rattle.terms.specs.declared.refusal.Refusal.{Refusal}
 use Rattle.terms.specs.declared.refusal.Refusal.TheVariants.{LaneEmpty, LaneFull, OutOfRange}
 use Rattle.terms.specs.Limits.{min_servers, max_servers, min_places, max_places}
@@ -66,8 +66,14 @@ module _ {A : Type 0} (held : A → Meaning) (b : Blocks A) (from to k : ℕ) (a
   pub refused : (m : Meaning) (e : Refusal) → slice_index b.used k < b.p → range_refusal m ≡ Some e → post_refusal b.n b.p (lanes_of held b) from to m ≡ Some e
   refused m e free told = room_passed m free ∙ told
 
+  pub out_of_range : (m : Meaning) → slice_index b.used k < b.p → in_range m ≡ false → post_refusal b.n b.p (lanes_of held b) from to m ≡ Some OutOfRange
+  out_of_range m free bad = refused m OutOfRange free (cond-false _ _ _ bad)
+
   pub may_post : (m : Meaning) → slice_index b.used k < b.p → range_refusal m ≡ None → post_refusal b.n b.p (lanes_of held b) from to m ≡ None
   may_post m free told = room_passed m free ∙ told
+
+  pub may_post_in_range : (m : Meaning) → slice_index b.used k < b.p → in_range m ≡ true → post_refusal b.n b.p (lanes_of held b) from to m ≡ None
+  may_post_in_range m free good = may_post m free (cond-true _ _ _ good)
 
   pub unused : (x : A) (m : Meaning) (e : Refusal) → slice_index b.used k < b.p → range_refusal m ≡ Some e → lanes_over held b.n b.p (slice_set (vec_items b.memory) (k * b.p + slice_index b.used k) x) b.used ≡ posted b.n b.p (lanes_of held b) from to m
   unused x m e free told = changes.unused held b.n b.p (vec_items b.memory) b.used from to k at ok room b.within x free ∙ left _ _ _ _ (refused m e free told)
@@ -77,6 +83,9 @@ module _ {A : Type 0} (held : A → Meaning) (b : Blocks A) (from to k : ℕ) (a
       done_as _ _ _ _ (may_post m free told)
       (changes.added held b.n b.p (vec_items b.memory) b.used from to k at ok room b.within x free known
       ∙ ap (λ z. with_lane (lanes_of held b) from to (lanes_of held b from to ++ z ∷ [])) (is ∙ cond-true _ _ _ (ranged m told)))
+
+  pub added_in_range : (x : A) (m : Meaning) → held x ≡ m → slice_index b.used k < b.p → in_range m ≡ true → lanes_over held b.n b.p (slice_set (vec_items b.memory) (k * b.p + slice_index b.used k) x) (slice_set b.used k (slice_index b.used k + 1)) ≡ posted b.n b.p (lanes_of held b) from to m
+  added_in_range x m is free good = added x x m (is ∙ sym (cond-true _ _ _ good)) free (cond-true _ _ _ good)
 
   pub empty : get_or b.used k 0 ≡ 0 → take_refusal b.n (lanes_of held b) from to ≡ Some LaneEmpty
   empty none = ends_passed _ ∙ ap empty_refusal (nil_from_length _ (lane_long ∙ none))
@@ -158,3 +167,7 @@ within_bounds n p size is =
       few_places = leb-true _ _ places.1;
       room = leb-true _ _ rest.1;
     }
+
+-- what keeps the bounds is not refused
+pub laid : (n p size : ℕ) → min_servers ≤ n → n ≤ max_servers → min_places ≤ p → p ≤ max_places → n * (n - 1) * p ≤ size → layout_refusal n p size ≡ None
+laid n p size a b c d e = cond-true _ _ _ (and_from _ _ (le-leb _ _ a) (le-leb _ _ b)) ∙ cond-true _ _ _ (and_from _ _ (and_from _ _ (le-leb _ _ c) (le-leb _ _ d)) (le-leb _ _ e))

@@ -5,15 +5,16 @@ use Rattle.terms.specs.Sets.{member}
 use Rattle.message.specs.declared.tag.Tag.{Tag}
 use Rattle.message.specs.Tags.{zero_tag}
 use Rattle.rules.specs.State as rules
-use Rattle.rules.specs.Updates.{answered, newer}
+use Rattle.rules.specs.Updates.{answered, newer, is_free, has_number, is_open_as}
 use Rattle.reads.specs.declared.reads.Asking.{Asking}
 use Rattle.reads.specs.declared.reads.Given.{Given}
 use Rattle.reads.specs.declared.reads.Read.{Read}
 use Rattle.reads.specs.declared.reads.Read.TheVariants as ReadOf
 use Rattle.reads.specs.declared.reads.Event as declared
 use Rattle.reads.specs.declared.reads.Event.TheVariants.{Replied, Newer, Collected}
+use Rattle.reads.specs.declared.reads.Sought.{Sought}
+use Rattle.reads.specs.declared.reads.Sought.TheVariants as sought
 use Rattle.reads.specs.declared.reads.Reads.{Reads}
-use Rattle.reads.specs.Ways.{way_number}
 
 abbrev pub asking : Asking → rules.Asking
 asking a = record {
@@ -25,7 +26,7 @@ asking a = record {
 }
 
 abbrev pub given : Given → rules.Given
-given r = record { number = r.number; value = items r.value; tag = r.tag; way = way_number r.way }
+given r = record { number = r.number; value = items r.value; tag = r.tag; way = r.way }
 
 abbrev pub read : Read → rules.Read
 read ReadOf.Free = rules.Free
@@ -63,3 +64,9 @@ abbrev pub next : rules.Read → Event → rules.Read
 next r (replied v) = replied_to v r
 next r (newer_write all x t v) = newer all x t v r
 next r collected = collected_from r
+
+-- the read is what is looked for
+abbrev pub passes : Sought → rules.Read → Bool
+passes sought.Free r = is_free r
+passes (sought.Numbered m) r = has_number m r
+passes (sought.OpenAs m) r = is_open_as m r

@@ -3,7 +3,6 @@ ghost use Rattle.std.specs.Prelude.{◌≡◌, length, vec_len};
 ghost use Rattle.terms.specs.Limits.{max_servers, max_objects};
 ghost use Rattle.rules.specs.State.{all_reads};
 
-use crate::ways::Way;
 use message::tag::Tag;
 use terms::bounded::Cells;
 use terms::limits::{MAX_OBJECTS, MAX_SERVERS};
@@ -32,7 +31,8 @@ pub struct Given {
     pub number: u32,
     pub value: Cells,
     pub tag: Tag,
-    pub way: Way,
+    // the number of a way, as `Way::number` tells it
+    pub way: u8,
 }
 
 #[derive(Clone, Copy)]
@@ -56,6 +56,16 @@ pub enum Event {
     },
     // The client takes the answer.
     Collected,
+}
+
+// What is looked for among the reads.
+#[derive(Clone, Copy)]
+pub enum Sought {
+    Free,
+    // A read that is not collected yet, by its number.
+    Numbered(u32),
+    // An open read, by its number.
+    OpenAs(u32),
 }
 
 // The clients' places, and behind them one for the internal read of each object.

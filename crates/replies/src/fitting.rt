@@ -1,24 +1,38 @@
 // Whether a message fits a group.
-ghost use Rattle.std.specs.Prelude.{◌≡◌, ℕ, ◌&&◌, length, ◌==◌, nat_lt};
+ghost use Rattle.std.specs.Prelude.{◌≡◌, ℕ, ◌&&◌, ltb, length, ◌==◌, nat_lt, slice_index};
 ghost use Rattle.terms.specs.Items.{items};
 ghost use Rattle.std.specs.List.{list_all};
 ghost use Rattle.message.specs.Meanings.{meaning as meaning_of};
 ghost use Rattle.code.specs.Meaning.{meaning};
 ghost use Rattle.rules.specs.Delivering.{fits_value, fits_tag, fits_tags, fits_group, fits};
 ghost use Rattle.server.specs.Steps.{laid};
+ghost use Rattle.terms.specs.Lists.{every};
 
 use code::code::Code;
-use code::code::values::all_elements;
 use field::interface::Field;
 use message::kinds::{Clock, Message, Tags};
 use message::tag::Tag;
 use terms::bounded::Cells;
 
+// Whether the cell c is an element; past the last cell stands 0.
+fn is_element<F: Field>(value: &[u8], c: usize) -> bool
+    ensures { result ≡ nat_lt (slice_index value.now c) F.arithmetic.size }
+{
+    u16::from(value.get(c).copied().unwrap_or(0)) < F::size()
+}
+
+// Whether each of the first cells is an element.
+pub fn all_elements<F: Field>(value: &[u8], cells: usize) -> bool
+    ensures decided { result ≡ every cells (λ c. ltb (slice_index value.now c) F.arithmetic.size) }
+{
+    (0..cells).all(|c| is_element::<F>(value, c))
+}
+
 // Whether this is a value: as many elements as there are cells.
 fn fits_value<F: Field + Copy>(code: &Code<F>, value: &Cells) -> bool
     ensures { (places : ℕ) → result ≡ fits_value (laid (meaning F.arithmetic code.now) places) (items value.now) }
 {
-    value.len() == code.cells() && all_elements::<F>(value.as_slice())
+    value.len() == code.cells() && all_elements::<F>(value.as_slice(), code.cells())
 }
 
 // Whether the tag's server is one of the group's.

@@ -4,7 +4,6 @@ use Rattle.std.specs.Prelude.{ℕ, Some, None, Ok, Err, Result}
 use Rattle.terms.specs.Items.{items}
 use Rattle.terms.specs.declared.refusal.Refusal.{Refusal}
 use Rattle.message.specs.Meanings.{meaning}
-use Rattle.reads.specs.Ways.{way_number}
 use Rattle.rules.specs.State.{Server}
 use Rattle.rules.specs.Turns as rules
 use Rattle.rules.specs.Turns.{Answer, Refused, Numbered, StillOpen, Outcome}
@@ -20,7 +19,7 @@ use Rattle.steps.specs.declared.turns.CollectAnswer.{CollectAnswer}
 use Rattle.steps.specs.declared.turns.CollectAnswer.TheVariants as collected
 
 abbrev pub valued : Valued → Answer
-valued v = rules.Valued (items v.value) v.tag (way_number v.way)
+valued v = rules.Valued (items v.value) v.tag v.way
 
 abbrev pub read_answer : ReadAnswer → Answer
 read_answer (Given v) = valued v

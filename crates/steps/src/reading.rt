@@ -35,7 +35,7 @@ fn read_now<F: Field + Copy>(
         return Some(Valued {
             value,
             tag: highest,
-            way: Way::History,
+            way: Way::History.number(),
         });
     }
     let value = alone?;
@@ -45,7 +45,7 @@ fn read_now<F: Field + Copy>(
     Some(Valued {
         value: value.cells,
         tag: own,
-        way: Way::OwnSymbol,
+        way: Way::OwnSymbol.number(),
     })
 }
 

@@ -8,7 +8,6 @@ ghost use Rattle.std.proofs.Props.{props};
 use message::kinds::Message;
 use message::tag::Tag;
 use reads::reads::Given;
-use reads::ways::Way;
 use std::alloc::AllocError;
 use terms::bounded::Cells;
 
@@ -43,12 +42,12 @@ impl<A: Copy> Turn<A> {
     }
 }
 
-// A value with its tag, and the way by which it was had.
+// A value with its tag, and the number of the way by which it was had.
 #[derive(Clone, Copy)]
 pub struct Valued {
     pub value: Cells,
     pub tag: Tag,
-    pub way: Way,
+    pub way: u8,
 }
 
 impl From<Given> for Valued {

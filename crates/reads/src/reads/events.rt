@@ -4,10 +4,10 @@ ghost use Rattle.terms.specs.Items.{items};
 ghost use Rattle.message.specs.Tags.{zero_tag, lower};
 ghost use Rattle.rules.specs.Encoding.{asks};
 ghost use Rattle.rules.specs.Updates.{answered, is_free, is_open, has_number, is_open_as};
-ghost use Rattle.reads.specs.Readings.{asking, read, event_of, next};
+ghost use Rattle.reads.specs.Readings.{asking, read, event_of, next, passes};
 ghost use Rattle.reads.specs.Ways.{way_number};
 
-use super::{Asking, Event, Given, Read};
+use super::{Asking, Event, Given, Read, Sought};
 use crate::ways::Way;
 use message::tag::Tag;
 use terms::bounded::Cells;
@@ -34,7 +34,7 @@ impl Asking {
             number: self.number,
             value,
             tag,
-            way,
+            way: way.number(),
         })
     }
 }
@@ -64,6 +64,17 @@ impl Read {
             }
             (Read::Answered(_), Event::Collected) => Read::Free,
             _ => self,
+        }
+    }
+
+    // Whether this is what is looked for.
+    pub(crate) fn is(&self, sought: Sought) -> bool
+        ensures { result ≡ passes sought (read self.now) }
+    {
+        match sought {
+            Sought::Free => self.is_free(),
+            Sought::Numbered(number) => self.has_number(number),
+            Sought::OpenAs(number) => self.is_open_as(number),
         }
     }
 

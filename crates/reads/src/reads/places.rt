@@ -8,9 +8,9 @@ ghost use Rattle.rules.specs.Words.{upd, some, first_below};
 ghost use Rattle.rules.specs.Updates.{overtaken};
 ghost use Rattle.rules.specs.Encoding.{asks};
 ghost use Rattle.reads.specs.Places.{Inside};
-ghost use Rattle.reads.specs.Readings.{read, reads, event_of, next};
+ghost use Rattle.reads.specs.Readings.{read, reads, event_of, next, passes as is_sought};
 
-use super::{Event, Read, Reads};
+use super::{Event, Read, Reads, Sought};
 use crate::numbers::ReadPlace;
 use message::tag::Tag;
 use std::alloc::{AllocError, Global};
@@ -33,8 +33,16 @@ impl Reads {
         self.places.get(i).copied().unwrap_or(Read::Free)
     }
 
+    // The first of the first n places whose read is what is looked for.
+    pub fn find(&self, n: usize, sought: Sought) -> Option<usize>
+        ensures place { result ≡ first_below n (λ i. is_sought sought (reads self.now i)) }
+        ensures inside { Inside result n }
+    {
+        self.find_where(n, |read| read.is(sought))
+    }
+
     // The first of the first n places whose read passes the test.
-    pub fn find<F: Fn(&Read) -> bool>(&self, n: usize, test: F) -> Option<usize>
+    pub fn find_where<F: Fn(&Read) -> bool>(&self, n: usize, test: F) -> Option<usize>
         requires { F.IsAlwaysCallable test }
         ensures place { (p : ReadState → Bool) → ComputesKey F.FnMut (λ r. p (read r)) test → result ≡ first_below n (λ i. p (reads self.now i)) }
         ensures inside { Inside result n }

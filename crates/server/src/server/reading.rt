@@ -37,7 +37,7 @@ impl Server {
         requires callable { F.IsAlwaysCallable test }
         ensures { (p : ReadState → Bool) → ComputesKey F.FnMut (λ r. p (read r)) test → option_map (λ i. i.number) result ≡ first_below n (λ i. p ((server self.now).reads i)) }
     {
-        let number = self.reads.find(n, test)?;
+        let number = self.reads.find_where(n, test)?;
         Some(ReadPlace::known(number))
     }
 

@@ -49,7 +49,7 @@ impl ServerSet {
     {
         let mut set = ServerSet::empty();
         for s in servers {
-            set = set.with(*s)?;
+            set.add(*s)?;
         }
         Ok(set)
     }
@@ -58,12 +58,20 @@ impl ServerSet {
     pub fn with(self, server: usize) -> Result<ServerSet, Refusal>
         ensures added_or_refused { Answered (unless (nat_lt server max_servers) NoSuchServer None) (λ set. (s : ℕ) → member set s ≡ (s == server || member self s)) result }
     {
+        let mut set = self;
+        set.add(server)?;
+        Ok(set)
+    }
+
+    // Puts one server more into the set.
+    fn add(&mut self, server: usize) -> Result<(), Refusal>
+        ensures added_or_refused { Answered (unless (nat_lt server max_servers) NoSuchServer None) (λ _. (s : ℕ) → member self.new s ≡ (s == server || member self.old s)) result }
+    {
         if server >= MAX_SERVERS {
             return Err(Refusal::NoSuchServer);
         }
-        let mut members = self.members;
-        members[server] = true;
-        Ok(ServerSet { members })
+        self.members[server] = true;
+        Ok(())
     }
 
     pub fn has(&self, server: usize) -> bool

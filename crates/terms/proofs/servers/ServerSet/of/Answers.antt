@@ -14,7 +14,7 @@ loop-s-preserved c =
     let xs = c.args.servers.now in
     let i = c.loop-s.s-index in
     let s : ℕ = get_or xs i 0 in
-    let added = c.in_ok-set.ensures.added_or_refused in (
+    let added = c.in_ok-add.ensures.added_or_refused in (
       each_next (λ v. ltb v 6) xs i 0 c.loop-s-test.true (passed _ _ added.0) c.loop-s.invariant.0,
       λ t. added.1 t ∙ ap (λ (b : Bool). eqb t s || b) (c.loop-s.invariant.1 t) ∙ sym (among_more xs i t c.loop-s-test.true),
     )
