@@ -72,9 +72,6 @@ module _ {A : Type 0} (held : A → Meaning) (b : Blocks A) (from to k : ℕ) (a
   pub may_post : (m : Meaning) → slice_index b.used k < b.p → range_refusal m ≡ None → post_refusal b.n b.p (lanes_of held b) from to m ≡ None
   may_post m free told = room_passed m free ∙ told
 
-  pub may_post_in_range : (m : Meaning) → slice_index b.used k < b.p → in_range m ≡ true → post_refusal b.n b.p (lanes_of held b) from to m ≡ None
-  may_post_in_range m free good = may_post m free (cond-true _ _ _ good)
-
   pub unused : (x : A) (m : Meaning) (e : Refusal) → slice_index b.used k < b.p → range_refusal m ≡ Some e → lanes_over held b.n b.p (slice_set (vec_items b.memory) (k * b.p + slice_index b.used k) x) b.used ≡ posted b.n b.p (lanes_of held b) from to m
   unused x m e free told = changes.unused held b.n b.p (vec_items b.memory) b.used from to k at ok room b.within x free ∙ left _ _ _ _ (refused m e free told)
 
@@ -83,9 +80,6 @@ module _ {A : Type 0} (held : A → Meaning) (b : Blocks A) (from to k : ℕ) (a
       done_as _ _ _ _ (may_post m free told)
       (changes.added held b.n b.p (vec_items b.memory) b.used from to k at ok room b.within x free known
       ∙ ap (λ z. with_lane (lanes_of held b) from to (lanes_of held b from to ++ z ∷ [])) (is ∙ cond-true _ _ _ (ranged m told)))
-
-  pub added_in_range : (x : A) (m : Meaning) → held x ≡ m → slice_index b.used k < b.p → in_range m ≡ true → lanes_over held b.n b.p (slice_set (vec_items b.memory) (k * b.p + slice_index b.used k) x) (slice_set b.used k (slice_index b.used k + 1)) ≡ posted b.n b.p (lanes_of held b) from to m
-  added_in_range x m is free good = added x x m (is ∙ sym (cond-true _ _ _ good)) free (cond-true _ _ _ good)
 
   pub empty : get_or b.used k 0 ≡ 0 → take_refusal b.n (lanes_of held b) from to ≡ Some LaneEmpty
   empty none = ends_passed _ ∙ ap empty_refusal (nil_from_length _ (lane_long ∙ none))
